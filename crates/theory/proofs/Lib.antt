@@ -1,0 +1,9 @@
+pub mod ListLaws
+pub mod TestLaws
+pub mod SequenceLaws
+pub mod OrderLaws
+pub mod IndexLaws
+pub mod CheapestLaws
+pub mod PruningLaws
+pub mod VisitLaws
+pub mod PlanLaws

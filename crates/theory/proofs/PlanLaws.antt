@@ -1,0 +1,240 @@
+-- Where every mark is justified, the pruned depth-first search answers with the cheapest candidate, or with none where there is no candidate.
+-- Assumes nothing.
+use mathlib.Core.Path.{_≡_, refl, sym, ap, _∙_, subst, fun-ext}
+use mathlib.Core.Logic.{_⊎_, inl, inr}
+use mathlib.Core.Bool.{Bool, true, false, cond, _&&_, _||_}
+use mathlib.Core.Option.{Option, some, none}
+use mathlib.Core.List.{List, [], _∷_, _++_}
+use mathlib.Core.List.{List·Memᴰ·head, List·Memᴰ·tail, List·Memᴰ·not-nil}
+use Prim.Native.Nat.{ℕ, zero, suc, _<_}
+use native.Mathlib.Omega.{arith}
+use lib.Dec.{ltb, eqb}
+use lib.ListN.{length}
+use Rattle.theory.specs.Lists.{_∈_, keep, keepIf, flat, Pairwise, isSome}
+use Rattle.theory.specs.Sequences.{Sequence, andThen, run, costOf, numbers, sequences, depthFirst}
+use Rattle.theory.specs.Order.{LexBefore, Before}
+use Rattle.theory.specs.Pruning.{pruned, Closed, Justified}
+use Rattle.theory.specs.Plans.{endsIn, reaches, isPlan, candidates, cheapest, Preferred, Least, allowed, isVisited, visited}
+use Rattle.theory.specs.Recursion.{enter, explore, allowedNext, better, improved, best, noted, overRules, enterWith, seek}
+use Rattle.theory.proofs.ListLaws.{or-split, or-left, or-right, ltb-true, true-ltb, eqb-true, true-eqb, and-split, and-join, here, in-keep, of-keep, pairwise-keep, passes?, not-both, true-leb, ltb-false}
+use Rattle.theory.proofs.SequenceLaws.{run-append, of-sequences, in-sequences, of-depthFirst, in-depthFirst}
+use Rattle.theory.proofs.OrderLaws.{sequences-ordered, depthFirst-ordered}
+use Rattle.theory.proofs.CheapestLaws.{preferred-trans, least-unique, cheapest-none, cheapest-least}
+use Rattle.theory.proofs.PruningLaws.{in-endsIn, of-plan, cheapest-not-pruned}
+use Rattle.theory.proofs.VisitLaws.{of-allowed, in-allowed, visited-explore-next}
+
+-- ── The preference as a test ────────────────────────────────────────────────────────────────────
+
+-- a test of the form: less, or equal and a further test
+less-or : (x y : ℕ) (c : Bool) → (ltb x y || (eqb x y && c)) ≡ true → (x < y) ⊎ ((x ≡ y) × (c ≡ true))
+less-or x y c h = go (or-split (ltb x y) (eqb x y && c) h)
+  where
+    go : (ltb x y ≡ true) ⊎ ((eqb x y && c) ≡ true) → (x < y) ⊎ ((x ≡ y) × (c ≡ true))
+    go (inl e) = inl (ltb-true x y e)
+    go (inr e) = let w = and-split (eqb x y) c e in inr (eqb-true x y (w .0), w .1)
+
+or-less : (x y : ℕ) (c : Bool) → (x < y) ⊎ ((x ≡ y) × (c ≡ true)) → (ltb x y || (eqb x y && c)) ≡ true
+or-less x y c (inl h) = or-left (eqb x y && c) (true-ltb x y h)
+or-less x y c (inr h) = or-right (ltb x y) (and-join (true-eqb x y (h .0)) (h .1))
+
+-- ── The fold finds the least ─────────────────────────────────────────────────────────────────────
+
+module _ (cost : ℕ → ℕ) where
+  -- the same where every sequence counts
+  abbrev bestOf : Option Sequence → List Sequence → Option Sequence
+  bestOf c [] = c
+  bestOf c (q ∷ l) = bestOf (improved cost q c) l
+
+  best-keep : (good : Sequence → Bool) (c : Option Sequence) (l : List Sequence) → best cost good c l ≡ bestOf c (keep good l)
+  best-keep good c [] = refl
+  best-keep good c (q ∷ l) = go (good q) (λ c. best-keep good c l)
+    where
+      go : (b : Bool) → ((c : Option Sequence) → best cost good c l ≡ bestOf c (keep good l)) → best cost good (cond b (improved cost q c) c) l ≡ bestOf c (keepIf b q (keep good l))
+      go true ih = ih (improved cost q c)
+      go false ih = ih c
+
+  -- what is better is preferred
+  better-preferred : (q p : Sequence) → better cost q p ≡ true → Preferred cost q p
+  better-preferred q p h = go (less-or (costOf cost q) (costOf cost p) (ltb (length q) (length p)) h)
+    where
+      go : (costOf cost q < costOf cost p) ⊎ ((costOf cost q ≡ costOf cost p) × (ltb (length q) (length p) ≡ true)) → Preferred cost q p
+      go (inl k) = inl k
+      go (inr k) = inr (k .0, inl (ltb-true (length q) (length p) (k .1)))
+
+  -- what comes first in lexicographic order and is not improved on is preferred
+  earlier-preferred : (q p : Sequence) → LexBefore p q → better cost q p ≡ false → Preferred cost p q
+  earlier-preferred q p l h = byCost (passes? (ltb (costOf cost p) (costOf cost q))) (passes? (ltb (costOf cost q) (costOf cost p)))
+    where
+      byLength : costOf cost q ≡ costOf cost p → (ltb (length q) (length p) ≡ true) ⊎ (ltb (length q) (length p) ≡ false) → (ltb (length p) (length q) ≡ true) ⊎ (ltb (length p) (length q) ≡ false) → Before p q
+      byLength e (inl s) t = not-both (or-less (costOf cost q) (costOf cost p) (ltb (length q) (length p)) (inr (e, s))) h
+      byLength e (inr s) (inl t) = inl (ltb-true (length p) (length q) t)
+      byLength e (inr s) (inr t) = let s′ = ltb-false (length q) (length p) s in let t′ = ltb-false (length p) (length q) t in inr (omega arith, l)
+
+      byCost : (ltb (costOf cost p) (costOf cost q) ≡ true) ⊎ (ltb (costOf cost p) (costOf cost q) ≡ false) → (ltb (costOf cost q) (costOf cost p) ≡ true) ⊎ (ltb (costOf cost q) (costOf cost p) ≡ false) → Preferred cost p q
+      byCost (inl s) t = inl (ltb-true (costOf cost p) (costOf cost q) s)
+      byCost (inr s) (inl t) = not-both (or-less (costOf cost q) (costOf cost p) (ltb (length q) (length p)) (inl (ltb-true (costOf cost q) (costOf cost p) t))) h
+      byCost (inr s) (inr t) =
+          let s′ = ltb-false (costOf cost p) (costOf cost q) s in
+          let t′ = ltb-false (costOf cost q) (costOf cost p) t in
+          let e : costOf cost q ≡ costOf cost p = omega arith in
+          inr (sym e, byLength e (passes? (ltb (length q) (length p))) (passes? (ltb (length p) (length q))))
+
+  -- p is least, and q preferred to r: then r is no better than p
+  carry : (p q r : Sequence) → (q ≡ p) ⊎ Preferred cost p q → Preferred cost q r → (r ≡ p) ⊎ Preferred cost p r
+  carry p q r (inl e) h = inr (subst (λ x. Preferred cost x r) e h)
+  carry p q r (inr k) h = inr (preferred-trans cost p q r k h)
+
+  -- the fold over a list in lexicographic order gives the least of what it has seen
+  bestOf-least : (l : List Sequence) (c : Sequence) → Pairwise LexBefore (c ∷ l) → (p : Sequence) × (bestOf (some c) l ≡ some p) × Least cost (c ∷ l) p
+  bestOf-least [] c o = (c, refl, (here c [], alone))
+    where
+      alone : (q : Sequence) → q ∈ c ∷ [] → (q ≡ c) ⊎ Preferred cost c q
+      alone q (List·Memᴰ·head e) = inl e
+      alone q (List·Memᴰ·tail d) = absurd (List·Memᴰ·not-nil d)
+  bestOf-least (x ∷ l) c o = go (better cost x c) refl (bestOf-least l)
+    where
+      Found : Bool → Type 0
+      Found b = (p : Sequence) × (bestOf (cond b (some x) (some c)) l ≡ some p) × Least cost (c ∷ x ∷ l) p
+
+      go : (b : Bool) → better cost x c ≡ b → ((c : Sequence) → Pairwise LexBefore (c ∷ l) → (p : Sequence) × (bestOf (some c) l ≡ some p) × Least cost (c ∷ l) p) → Found b
+      go true h ih = let w = ih x (o .1) in (w .0, w .1, (List·Memᴰ·tail (w .2 .0), others (w .0) (w .2)))
+        where
+          others : (p : Sequence) → Least cost (x ∷ l) p → (q : Sequence) → q ∈ c ∷ x ∷ l → (q ≡ p) ⊎ Preferred cost p q
+          others p k q (List·Memᴰ·head e) = subst (λ y. (y ≡ p) ⊎ Preferred cost p y) (sym e) (carry p x c (k .1 x (here x l)) (better-preferred x c h))
+          others p k q (List·Memᴰ·tail d) = k .1 q d
+      go false h ih = let w = ih c (λ y d. o .0 y (List·Memᴰ·tail d), o .1 .1) in (w .0, w .1, (member (w .0) (w .2 .0), others (w .0) (w .2)))
+        where
+          member : (p : Sequence) → p ∈ c ∷ l → p ∈ c ∷ x ∷ l
+          member p (List·Memᴰ·head e) = List·Memᴰ·head e
+          member p (List·Memᴰ·tail d) = List·Memᴰ·tail (List·Memᴰ·tail d)
+
+          others : (p : Sequence) → Least cost (c ∷ l) p → (q : Sequence) → q ∈ c ∷ x ∷ l → (q ≡ p) ⊎ Preferred cost p q
+          others p k q (List·Memᴰ·head e) = k .1 q (List·Memᴰ·head e)
+          others p k q (List·Memᴰ·tail (List·Memᴰ·head e)) = subst (λ y. (y ≡ p) ⊎ Preferred cost p y) (sym e) (carry p c x (k .1 c (here c l)) (earlier-preferred x c (o .0 x (here x l)) h))
+          others p k q (List·Memᴰ·tail (List·Memᴰ·tail d)) = k .1 q (List·Memᴰ·tail d)
+
+  bestOf-finds : (l : List Sequence) → Pairwise LexBefore l → (p : Sequence) → Least cost l p → bestOf none l ≡ some p
+  bestOf-finds [] o p h = absurd (List·Memᴰ·not-nil (h .0))
+  bestOf-finds (x ∷ l) o p h = let w = bestOf-least l x o in w .1 ∙ ap {B = Option Sequence} some (least-unique cost (x ∷ l) (w .0) p (w .2) h)
+
+-- ── The search's answer ──────────────────────────────────────────────────────────────────────────
+
+module _ {A : Type 0} (step : ℕ → A → Option A) (cost : ℕ → ℕ) (m : ℕ) (Valid : A → Type 0) (closed : Closed step m Valid)
+    (marked : Sequence → Bool) (justified : Justified step cost m Valid marked)
+    (start : A) (valid : Valid start) (goal : A → Bool) (maxMoves maxCost : ℕ) where
+  abbrev plans : List Sequence
+  plans = candidates step cost m start goal maxMoves maxCost
+
+  abbrev visits : List Sequence
+  visits = visited step cost m marked start maxMoves maxCost
+
+  -- the plans that the search comes to
+  abbrev found : List Sequence
+  found = keep (reaches step start goal) visits
+
+  found-ordered : Pairwise LexBefore found
+  found-ordered =
+      pairwise-keep LexBefore (reaches step start goal) visits
+      (pairwise-keep LexBefore (isVisited step cost marked start maxCost) (depthFirst m maxMoves) (depthFirst-ordered m maxMoves))
+
+  -- they are plans
+  found-plans : (q : Sequence) → q ∈ found → q ∈ plans
+  found-plans q d =
+      let u = of-keep (reaches step start goal) visits d in
+      let v = of-keep (isVisited step cost marked start maxCost) (depthFirst m maxMoves) (u .0) in
+      let w = of-depthFirst m maxMoves (v .0) in
+      let b = and-split (isSome (run step q start)) (allowed cost marked maxCost q) (v .1) in
+      let c = of-allowed cost marked maxCost q (b .1) in
+      in-keep (isPlan step cost start goal maxCost) (in-sequences m maxMoves q (w .0) (w .1)) (and-join (u .1) (true-leb (costOf cost q) maxCost (c .0)))
+
+  -- and a plan that is not pruned is among them
+  plans-found : (q : Sequence) → q ∈ plans → pruned marked q ≡ false → q ∈ found
+  plans-found q d h =
+      let u = of-keep (isPlan step cost start goal maxCost) (sequences m maxMoves) d in
+      let w = of-sequences m maxMoves (u .0) in
+      let t = of-plan step cost start goal maxCost q (u .1) in
+      in-keep (reaches step start goal)
+      (in-keep (isVisited step cost marked start maxCost) (in-depthFirst m maxMoves q (w .0) (w .1)) (and-join (ap isSome (t .1)) (in-allowed cost marked maxCost q (t .3) h)))
+      (in-endsIn goal (run step q start) (t .0) (t .1) (t .2))
+
+  -- the search answers with the cheapest plan; where there is no plan, with none
+  pub best-cheapest : best cost (reaches step start goal) none (visited step cost m marked start maxMoves maxCost) ≡ cheapest cost (candidates step cost m start goal maxMoves maxCost)
+  best-cheapest = best-keep cost (reaches step start goal) none visits ∙ go (cheapest cost plans) refl
+    where
+      empty : (l : List Sequence) → ((q : Sequence) → q ∈ l → ⊥) → bestOf cost none l ≡ none
+      empty [] h = refl
+      empty (q ∷ l) h = absurd (h q (here q l))
+
+      go : (o : Option Sequence) → cheapest cost plans ≡ o → bestOf cost none found ≡ o
+      go none e = empty found (λ q d. List·Memᴰ·not-nil (subst (λ l. q ∈ l) (cheapest-none cost plans e) (found-plans q d)))
+      go (some p) e = bestOf-finds cost found found-ordered p (plans-found p (least .0) safe, λ q d. least .1 q (found-plans q d))
+        where
+          least : Least cost plans p
+          least = cheapest-least cost plans (pairwise-keep Before (isPlan step cost start goal maxCost) (sequences m maxMoves) (sequences-ordered m maxMoves)) p e
+
+          safe : pruned marked p ≡ false
+          safe = cheapest-not-pruned step cost m Valid closed marked justified start goal maxMoves maxCost p valid e
+
+-- ── The recursion that carries the best plan ─────────────────────────────────────────────────────
+
+module _ {A : Type 0} (step : ℕ → A → Option A) (cost : ℕ → ℕ) (m : ℕ) (may : Sequence → Bool) (start : A) (goal : A → Bool) where
+  best-append : (good : Sequence → Bool) (s t : List Sequence) (c : Option Sequence) → best cost good c (s ++ t) ≡ best cost good (best cost good c s) t
+  best-append good [] t c = refl
+  best-append good (q ∷ s) t c = best-append good s t (cond (good q) (improved cost q c) c)
+
+  best-flat : (good : Sequence → Bool) (f : ℕ → List Sequence) (rs : List ℕ) (c : Option Sequence) → best cost good c (flat f rs) ≡ overRules (λ r c′. best cost good c′ (f r)) rs c
+  best-flat good f [] c = refl
+  best-flat good f (r ∷ rs) c = best-append good (f r) (flat f rs) c ∙ best-flat good f rs (best cost good c (f r))
+
+  abbrev fold : Option Sequence → List Sequence → Option Sequence
+  fold = best cost (reaches step start goal)
+
+  abbrev Folds : ℕ → Type 0
+  Folds n = (q : Sequence) (s : A) (c : Option Sequence) → run step q start ≡ some s → seek step cost m may goal n q s c ≡ fold c (explore step m may n q s)
+
+  seek-child : (n : ℕ) → Folds n → (q : Sequence) (s : A) → run step q start ≡ some s → (r : ℕ) (c : Option Sequence)
+      → enterWith c (may (q ++ (r ∷ []))) (step r s) (λ t. seek step cost m may goal n (q ++ (r ∷ [])) t c)
+      ≡ fold c (enter (may (q ++ (r ∷ []))) (step r s) (explore step m may n (q ++ (r ∷ []))))
+  seek-child n ih q s e r c = go (step r s) refl (may next)
+    where
+      next : Sequence
+      next = q ++ (r ∷ [])
+
+      runIn : run step next start ≡ andThen (step r s) some
+      runIn = run-append step q (r ∷ []) start ∙ ap (λ o. andThen o (run step (r ∷ []))) e
+
+      go : (o : Option A) → step r s ≡ o → (b : Bool) → enterWith c b o (λ t. seek step cost m may goal n next t c) ≡ fold c (enter b o (explore step m may n next))
+      go none p b = refl
+      go (some t) p true = ih next t c (runIn ∙ ap (λ o. andThen o some) p)
+      go (some t) p false = refl
+
+  noted-at : (q : Sequence) (s : A) (c : Option Sequence) → run step q start ≡ some s → noted cost goal q s c ≡ cond (reaches step start goal q) (improved cost q c) c
+  noted-at q s c e = ap (λ o. cond (endsIn goal o) (improved cost q c) c) (sym e)
+
+  -- it is the fold over what the recursion visits
+  pub seek-best : (n : ℕ) (q : Sequence) (s : A) (c : Option Sequence) → run step q start ≡ some s
+      → seek step cost m may goal n q s c ≡ best cost (reaches step start goal) c (explore step m may n q s)
+  seek-best zero q s c e = noted-at q s c e
+  seek-best (suc n) q s c e =
+      ap (overRules visit (numbers m)) (noted-at q s c e)
+      ∙ ap (λ f. overRules f (numbers m) c₁) (fun-ext (λ r. fun-ext (λ c′. seek-child n (seek-best n) q s e r c′)))
+      ∙ sym (best-flat (reaches step start goal) list (numbers m) c₁)
+    where
+      c₁ : Option Sequence
+      c₁ = cond (reaches step start goal q) (improved cost q c) c
+
+      visit : ℕ → Option Sequence → Option Sequence
+      visit r c′ = enterWith c′ (may (q ++ (r ∷ []))) (step r s) (λ t. seek step cost m may goal n (q ++ (r ∷ [])) t c′)
+
+      list : ℕ → List Sequence
+      list r = enter (may (q ++ (r ∷ []))) (step r s) (explore step m may n (q ++ (r ∷ [])))
+
+-- the whole search: the recursion that carries the best plan and looks, for one more rule, only at the suffixes of at most n rules
+pub seek-cheapest : {A : Type 0} (step : ℕ → A → Option A) (cost : ℕ → ℕ) (m : ℕ) (Valid : A → Type 0) → Closed step m Valid
+    → (marked : Sequence → Bool) → Justified step cost m Valid marked → (n : ℕ) → ((b : Sequence) → n < length b → marked b ≡ false)
+    → (start : A) → Valid start → (goal : A → Bool) (maxMoves maxCost : ℕ)
+    → seek step cost m (allowedNext cost marked maxCost n) goal maxMoves [] start none ≡ cheapest cost (candidates step cost m start goal maxMoves maxCost)
+seek-cheapest step cost m Valid closed marked justified n short start valid goal maxMoves maxCost =
+    seek-best step cost m (allowedNext cost marked maxCost n) start goal maxMoves [] start none refl
+    ∙ ap (best cost (reaches step start goal) none) (sym (visited-explore-next step cost m marked start maxCost n short maxMoves))
+    ∙ best-cheapest step cost m Valid closed marked justified start valid goal maxMoves maxCost

@@ -1,0 +1,82 @@
+-- When a test passes, as a statement: `(test ≡ true) ↔ statement`, for the tests on numbers and lists and for tests put together.
+-- Assumes nothing.
+use mathlib.Core.Path.{_≡_, refl, subst}
+use mathlib.Core.Logic.{_↔_, _⊎_, inl, inr}
+use mathlib.Core.Bool.{Bool, true, false, not, cond, _&&_, _||_, false≢true}
+use mathlib.Core.List.{List}
+use Prim.Native.Nat.{ℕ, _≤_, _<_}
+use lib.Dec.{leb, ltb, eqb}
+use native.Mathlib.Omega.{arith}
+use borrow.Author.Tests.{leb-true, le-leb, ltb-true, ltb-false, lt-ltb, eqb-true, eq-eqb}
+use Rattle.theory.specs.Lists.{_∈_, any, every, numbersFrom, within, same}
+use Rattle.theory.proofs.ListLaws.{and-split, and-join, every-at, true-every, any-true, true-any, of-numbersFrom, in-numbersFrom, same-true, same-refl}
+
+-- a number is below another or not
+pub below? : (i n : ℕ) → (i < n) ⊎ (n ≤ i)
+below? i n = go (ltb i n) refl
+  where
+    go : (t : Bool) → ltb i n ≡ t → (i < n) ⊎ (n ≤ i)
+    go true e = inl (ltb-true i n e)
+    go false e = inr (ltb-false i n e)
+
+pub leb-iff : (m n : ℕ) → (leb m n ≡ true) ↔ (m ≤ n)
+leb-iff m n = (leb-true m n, le-leb m n)
+
+pub ltb-iff : (m n : ℕ) → (ltb m n ≡ true) ↔ (m < n)
+ltb-iff m n = (ltb-true m n, lt-ltb m n)
+
+pub eqb-iff : (m n : ℕ) → (eqb m n ≡ true) ↔ (m ≡ n)
+eqb-iff m n = (eqb-true m n, eq-eqb m n)
+
+pub same-iff : (a b : List ℕ) → (same a b ≡ true) ↔ (a ≡ b)
+same-iff a b = (same-true a b, λ e. subst (λ l. same a l ≡ true) e (same-refl a))
+
+pub not-iff : (a : Bool) {P : Type 0} → (a ≡ true) ↔ P → (not a ≡ true) ↔ (P → ⊥)
+not-iff true i = (λ e p. false≢true e, λ h. absurd (h (i .0 refl)))
+not-iff false i = (λ e p. false≢true (i .1 p), λ h. refl)
+
+pub and-iff : (a b : Bool) {P Q : Type 0} → (a ≡ true) ↔ P → (b ≡ true) ↔ Q → ((a && b) ≡ true) ↔ (P × Q)
+and-iff a b i j = (λ e. let w = and-split a b e in (i .0 (w .0), j .0 (w .1)), λ w. and-join (i .1 (w .0)) (j .1 (w .1)))
+
+-- a test that is asked only where another fails
+pub unless-iff : (a b : Bool) {P Q : Type 0} → (a ≡ true) ↔ P → (b ≡ true) ↔ Q → ((a || b) ≡ true) ↔ ((P → ⊥) → Q)
+unless-iff true b i j = (λ _ n. absurd (n (i .0 refl)), λ _. refl)
+unless-iff false b i j = (λ e _. j .0 e, λ f. j .1 (f (λ p. false≢true (i .1 p))))
+
+pub within-iff : (lo hi n : ℕ) → (within lo hi n ≡ true) ↔ ((lo ≤ n) × (n ≤ hi))
+within-iff lo hi n = and-iff (leb lo n) (leb n hi) (leb-iff lo n) (leb-iff n hi)
+
+-- one test below a number, another from it on
+pub cond-iff : (i n : ℕ) (a b : Bool) {P Q : Type 0} → (a ≡ true) ↔ P → (b ≡ true) ↔ Q → (cond (ltb i n) a b ≡ true) ↔ ((i < n → P) × (n ≤ i → Q))
+cond-iff i n a b {P} {Q} p q = go (ltb i n) refl
+  where
+    go : (t : Bool) → ltb i n ≡ t → (cond t a b ≡ true) ↔ ((i < n → P) × (n ≤ i → Q))
+    go true e = let h = ltb-true i n e in (λ x. (λ _. p .0 x, λ k. absurd (omega arith)), λ w. p .1 (w .0 h))
+    go false e = let h = ltb-false i n e in (λ x. (λ k. absurd (omega arith), λ _. q .0 x), λ w. q .1 (w .1 h))
+
+-- a test that is asked only from n on
+pub or-iff : (i n : ℕ) (b : Bool) {Q : Type 0} → (b ≡ true) ↔ Q → ((ltb i n || b) ≡ true) ↔ (n ≤ i → Q)
+or-iff i n b {Q} q = go (ltb i n) refl
+  where
+    go : (t : Bool) → ltb i n ≡ t → ((t || b) ≡ true) ↔ (n ≤ i → Q)
+    go true e = let h = ltb-true i n e in (λ _ k. absurd (omega arith), λ _. refl)
+    go false e = let h = ltb-false i n e in (λ x _. q .0 x, λ w. q .1 (w h))
+
+module _ {A : Type 0} (p : A → Bool) (P : A → Type 0) (each : (a : A) → (p a ≡ true) ↔ P a) (l : List A) where
+  pub every-iff : (every p l ≡ true) ↔ ((a : A) → a ∈ l → P a)
+  every-iff = (λ e a d. each a .0 (every-at p e d), λ h. true-every p l (λ a d. each a .1 (h a d)))
+
+  pub any-iff : (any p l ≡ true) ↔ ((a : A) × (a ∈ l) × P a)
+  any-iff = (λ e. let w = any-true p l e in (w .0, w .1, each (w .0) .0 (w .2)), λ w. true-any p (w .1) (each (w .0) .1 (w .2)))
+
+-- the same over the numbers below n
+module _ (p : ℕ → Bool) (P : ℕ → Type 0) (each : (i : ℕ) → (p i ≡ true) ↔ P i) (n : ℕ) where
+  pub every-below-iff : (every p (numbersFrom 0 n) ≡ true) ↔ ((i : ℕ) → i < n → P i)
+  every-below-iff =
+      let w = every-iff p P each (numbersFrom 0 n) in
+      (λ e i h. w .0 e i (in-numbersFrom 0 n i (omega arith) (omega arith)), λ f. w .1 (λ i d. let b = of-numbersFrom 0 n d in f i (omega arith)))
+
+  pub any-below-iff : (any p (numbersFrom 0 n) ≡ true) ↔ ((i : ℕ) × (i < n) × P i)
+  any-below-iff =
+      let w = any-iff p P each (numbersFrom 0 n) in
+      (λ e. let v = w .0 e in let b = of-numbersFrom 0 n (v .1) in (v .0, omega arith, v .2), λ v. w .1 (v .0, in-numbersFrom 0 n (v .0) (omega arith) (omega arith), v .2))

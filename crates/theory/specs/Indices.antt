@@ -1,0 +1,23 @@
+-- The index of a sequence by arithmetic: the number (r₁ · m + r₂) · m + r₃ and so on.
+-- No promise of a public call mentions this file: document 01's index is a position in `sequences`, and the law `index-at` says that the two are the same.
+use mathlib.Core.List.{[], _∷_}
+use Prim.Native.Nat.{ℕ, zero, suc, _+_, _*_}
+use Rattle.theory.specs.Sequences.{Sequence}
+
+-- the index of q behind a sequence whose index is i
+abbrev pub indexFrom : ℕ → ℕ → Sequence → ℕ
+indexFrom m i [] = i
+indexFrom m i (r ∷ q) = indexFrom m (i * m + r) q
+
+-- the index of a sequence of rules 1 to m
+abbrev pub indexOf : ℕ → Sequence → ℕ
+indexOf m q = indexFrom m 0 q
+
+-- the index of the first sequence of n rules, and how many sequences of n rules there are
+abbrev pub levelStart : ℕ → ℕ → ℕ
+levelStart m zero = 0
+levelStart m (suc n) = levelStart m n * m + 1
+
+abbrev pub levelCount : ℕ → ℕ → ℕ
+levelCount m zero = 1
+levelCount m (suc n) = levelCount m n * m

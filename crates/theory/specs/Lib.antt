@@ -1,0 +1,7 @@
+pub mod Lists
+pub mod Sequences
+pub mod Order
+pub mod Pruning
+pub mod Plans
+pub mod Indices
+pub mod Recursion

@@ -1,0 +1,79 @@
+-- How a recursive search may go about it. No promise of a public call mentions this file; the laws in proofs/ equate it with `visited` and `candidates`.
+use mathlib.Core.Bool.{Bool, true, false, not, cond, _&&_, _||_}
+use mathlib.Core.Option.{Option, some, none}
+use mathlib.Core.List.{List, [], _∷_, _++_}
+use Prim.Native.Nat.{ℕ, zero, suc, _-_}
+use lib.Dec.{leb, ltb, eqb}
+use lib.ListN.{length, drop}
+use Rattle.theory.specs.Lists.{any, keep, flat}
+use Rattle.theory.specs.Sequences.{Sequence, costOf, numbers}
+
+-- ── The visited sequences ────────────────────────────────────────────────────────────────────────
+
+-- go on from the state that a rule leads to, where there is one and the test passes
+abbrev pub enter : {A : Type 0} → Bool → Option A → (A → List Sequence) → List Sequence
+enter b none visit = []
+enter true (some t) visit = visit t
+enter false (some t) visit = []
+
+-- the search as a recursion: at the sequence q, which has led to the state s, with n moves left.
+-- `may` tests whether it may go on to a sequence
+abbrev pub explore : {A : Type 0} → (ℕ → A → Option A) → ℕ → (Sequence → Bool) → ℕ → Sequence → A → List Sequence
+explore step m may zero q s = q ∷ []
+explore step m may (suc n) q s = q ∷ flat (λ r. enter (may (q ++ (r ∷ []))) (step r s) (explore step m may n (q ++ (r ∷ [])))) (numbers m)
+
+-- ── The test of one more rule ────────────────────────────────────────────────────────────────────
+
+-- the non-empty suffixes, the longest first
+abbrev pub suffixes : Sequence → List Sequence
+suffixes [] = []
+suffixes (r ∷ q) = (r ∷ q) ∷ suffixes q
+
+-- those of at most n rules
+abbrev pub shortSuffixes : ℕ → Sequence → List Sequence
+shortSuffixes n q = keep (λ b. leb (length b) n) (suffixes q)
+
+-- the last k rules
+abbrev pub last : ℕ → Sequence → Sequence
+last k q = drop (length q - k) q
+
+-- the test that looks only at the suffixes of at most n rules
+abbrev pub allowedNext : (ℕ → ℕ) → (Sequence → Bool) → ℕ → ℕ → Sequence → Bool
+allowedNext cost marked maxCost n q = leb (costOf cost q) maxCost && not (any marked (shortSuffixes n q))
+
+-- ── The best plan so far ─────────────────────────────────────────────────────────────────────────
+
+-- q replaces the best plan so far: it is cheaper, or costs the same and is shorter
+abbrev pub better : (ℕ → ℕ) → Sequence → Sequence → Bool
+better cost q p = ltb (costOf cost q) (costOf cost p) || (eqb (costOf cost q) (costOf cost p) && ltb (length q) (length p))
+
+-- the better of q and the best plan so far
+abbrev pub improved : (ℕ → ℕ) → Sequence → Option Sequence → Option Sequence
+improved cost q none = some q
+improved cost q (some p) = cond (better cost q p) (some q) (some p)
+
+-- the best plan so far after the sequences of a list, of which those count that pass the test
+abbrev pub best : (ℕ → ℕ) → (Sequence → Bool) → Option Sequence → List Sequence → Option Sequence
+best cost good c [] = c
+best cost good c (q ∷ l) = best cost good (cond (good q) (improved cost q c) c) l
+
+-- the best plan so far after q, which has led to the state s
+abbrev pub noted : {A : Type 0} → (ℕ → ℕ) → (A → Bool) → Sequence → A → Option Sequence → Option Sequence
+noted cost goal q s c = cond (goal s) (improved cost q c) c
+
+-- the best plan so far after a list of rules, each of which changes it by f
+abbrev pub overRules : (ℕ → Option Sequence → Option Sequence) → List ℕ → Option Sequence → Option Sequence
+overRules f [] c = c
+overRules f (r ∷ rs) c = overRules f rs (f r c)
+
+-- go on from the state that a rule leads to, where there is one and the test passes; else keep c
+abbrev pub enterWith : {A : Type 0} → Option Sequence → Bool → Option A → (A → Option Sequence) → Option Sequence
+enterWith c b none visit = c
+enterWith c true (some t) visit = visit t
+enterWith c false (some t) visit = c
+
+-- the search as a recursion that carries the best plan so far
+abbrev pub seek : {A : Type 0} → (ℕ → A → Option A) → (ℕ → ℕ) → ℕ → (Sequence → Bool) → (A → Bool) → ℕ → Sequence → A → Option Sequence → Option Sequence
+seek step cost m may goal zero q s c = noted cost goal q s c
+seek step cost m may goal (suc n) q s c =
+    overRules (λ r c′. enterWith c′ (may (q ++ (r ∷ []))) (step r s) (λ t. seek step cost m may goal n (q ++ (r ∷ [])) t c′)) (numbers m) (noted cost goal q s c)

@@ -1,0 +1,1 @@
+// The theory of pruning, over any transition system: definitions and laws alone.
