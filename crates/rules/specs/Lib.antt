@@ -1,0 +1,4 @@
+pub mod Text
+pub mod File
+pub mod Reading
+pub mod Writing
