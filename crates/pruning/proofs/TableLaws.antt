@@ -1,0 +1,302 @@
+-- Laws of the pruning table: how many sequences it has entries for, when it is accepted, what it marks, what the built table holds, and that the marks of an accepted one are justified.
+-- Assumes nothing.
+use mathlib.Core.Path.{_≡_, refl, sym, ap, ap₂, _∙_, subst}
+use mathlib.Core.Logic.{_↔_, _⊎_, inl, inr, _≢_, ⊎-elim}
+use mathlib.Core.Bool.{Bool, true, false, cond}
+use mathlib.Core.List.{List, [], _∷_, List·Memᴰ·tail}
+use Prim.Native.Nat.{ℕ, zero, suc, _+_, _*_, _/_, _%_, _^_, _≤_, _<_}
+use native.Mathlib.Nat.{zero-add, add-zero, mod-add-div, mod-lt, div-lt-iff-lt-mul, pow-zero, pow-suc, pow-le-pow-left}
+use native.Mathlib.Omega.{arith}
+use lib.ListN.{length, getD, take, length-append, length-map}
+use lib.Seq.{length-take-le, getD-take}
+use Rattle.theory.specs.Lists.{_∈_, flat, numbersFrom, same}
+use Rattle.theory.specs.Sequences.{Sequence, Numbered, level, sequences}
+use Rattle.theory.specs.Order.{Before}
+use Rattle.theory.specs.Indices.{indexOf, levelStart, levelCount}
+use Rattle.theory.specs.Pruning.{Justified}
+use Rattle.theory.proofs.ListLaws.{not-both, here, in-getD, of-numbersFrom, length-numbersFrom}
+use Rattle.theory.proofs.TestLaws.{below?, ltb-iff, eqb-iff, same-iff, not-iff, and-iff, unless-iff, every-below-iff, any-below-iff}
+use Rattle.theory.proofs.SequenceLaws.{of-sequences}
+use Rattle.theory.proofs.OrderLaws.{sequences-index, index-sequences}
+use Rattle.theory.proofs.IndexLaws.{level-indices, index-at}
+use Rattle.model.specs.Rules.{stepOf, ruleCost, StateOf, admitted, redundant, RedundantIn}
+use Rattle.model.specs.declared.RuleSet.{RuleSet}
+use Rattle.model.proofs.RedundancyLaws.{redundant-iff, not-admitted-redundant}
+use Rattle.pruning.specs.Table.{sequenceCount, tableEntries, sequenceAt, kept, entryAt, entryBytes, marked, firstIndex, builtEntry, builtTable, entryJustified, accepted, Marked, Prunable, MarkJustified, Accepted, LeastWitness}
+
+-- ── How many entries ─────────────────────────────────────────────────────────────────────────────
+
+-- m ^ n sequences have exactly n of m rules
+level-count : (m n : ℕ) → length (level m n) ≡ m ^ n
+level-count m n = sym (length-map (level m n) (indexOf m)) ∙ ap length (level-indices m n) ∙ length-numbersFrom (levelStart m n) (levelCount m n) ∙ size n
+  where
+    size : (n : ℕ) → levelCount m n ≡ m ^ n
+    size zero = sym (pow-zero m)
+    size (suc n) = ap (λ k. k * m) (size n) ∙ sym (pow-suc m n)
+
+-- S counts the sequences of at most `reach` of m rules
+pub count-sequences : (m reach : ℕ) → length (sequences m reach) ≡ sequenceCount m reach
+count-sequences m zero = refl
+count-sequences m (suc reach) = length-append (sequences m reach) (level m (suc reach)) ∙ ap₂ _+_ (count-sequences m reach) (level-count m (suc reach))
+
+-- a table has at most 30784 entries
+pub count-bound : (m reach : ℕ) → m ≤ 31 → reach ≤ 3 → sequenceCount m reach ≤ 30784
+count-bound m zero h k = omega arith
+count-bound m (suc zero) h k = omega (arith, pow-le-pow-left h 1)
+count-bound m (suc (suc zero)) h k = omega (arith, pow-le-pow-left h 1, pow-le-pow-left h 2)
+count-bound m (suc (suc (suc zero))) h k = omega (arith, pow-le-pow-left h 1, pow-le-pow-left h 2, pow-le-pow-left h 3)
+count-bound m (suc (suc (suc (suc reach)))) h k = absurd (omega arith)
+
+-- ── Tests ────────────────────────────────────────────────────────────────────────────────────────
+
+same-rev-iff : (a b : List ℕ) → (same a b ≡ true) ↔ (b ≡ a)
+same-rev-iff a b = (λ e. sym (same-iff a b .0 e), λ e. same-iff a b .1 (sym e))
+
+-- ── Two bytes an entry ───────────────────────────────────────────────────────────────────────────
+
+-- the table whose entries a function gives
+abbrev entriesOf : (ℕ → ℕ) → List ℕ → List ℕ
+entriesOf f l = flat (λ i. entryBytes (f i)) l
+
+entry-next : (low high : ℕ) (l : List ℕ) (i : ℕ) → entryAt (low ∷ high ∷ l) (suc i) ≡ entryAt l i
+unfolding entryAt
+entry-next low high l i =
+    let e : 2 * suc i ≡ suc (suc (2 * i)) = omega arith in
+    let e′ : 2 * suc i + 1 ≡ suc (suc (2 * i + 1)) = omega arith in
+    ap₂ (λ j k. getD (low ∷ high ∷ l) j 0 + 256 * getD (low ∷ high ∷ l) k 0) e e′
+
+entry-of : (f : ℕ → ℕ) (k n i : ℕ) → i < n → entryAt (entriesOf f (numbersFrom k n)) i ≡ f (k + i)
+unfolding entryAt
+entry-of f k zero i h = absurd (omega arith)
+entry-of f k (suc n) zero h = mod-add-div (f k) 256 ∙ ap f (sym (add-zero k))
+entry-of f k (suc n) (suc i) h =
+    let e : suc k + i ≡ k + suc i = omega arith in
+    entry-next (f k % 256) (f k / 256) (entriesOf f (numbersFrom (suc k) n)) i ∙ entry-of f (suc k) n i (omega arith) ∙ ap f e
+
+entries-size : (f : ℕ → ℕ) (l : List ℕ) → length (entriesOf f l) ≡ 2 * length l
+entries-size f [] = refl
+entries-size f (x ∷ l) = omega (arith, entries-size f l)
+
+entries-byte : (f : ℕ → ℕ) (l : List ℕ) → ((i : ℕ) → i ∈ l → f i < 65536) → (j : ℕ) → getD (entriesOf f l) j 0 < 256
+entries-byte f [] h j = omega arith
+entries-byte f (x ∷ l) h zero = mod-lt (f x) (omega arith)
+entries-byte f (x ∷ l) h (suc zero) = div-lt-iff-lt-mul {k = 256} {x = f x} {y = 256} (omega arith) .1 (h x (here x l))
+entries-byte f (x ∷ l) h (suc (suc j)) = entries-byte f l (λ i d. h i (List·Memᴰ·tail d)) j
+
+-- ── The first index ──────────────────────────────────────────────────────────────────────────────
+
+-- n is the index, from i on, of the first sequence that passes
+abbrev FirstPass : (Sequence → Bool) → ℕ → List Sequence → ℕ → Type 0
+FirstPass test i l n = (k : ℕ) × (n ≡ i + k) × (k < length l) × ((test (getD l k []) ≡ true) × ((j : ℕ) → j < k → test (getD l j []) ≡ false))
+
+-- no sequence passes
+abbrev NonePasses : (Sequence → Bool) → List Sequence → Type 0
+NonePasses test l = (k : ℕ) → k < length l → test (getD l k []) ≡ false
+
+first-index : (test : Sequence → Bool) (i : ℕ) (l : List Sequence) → ((firstIndex test i l ≡ kept) × NonePasses test l) ⊎ FirstPass test i l (firstIndex test i l)
+first-index test i [] = inl (refl, λ k h. absurd (omega arith))
+first-index test i (a ∷ later) = go (test a) refl (first-index test (suc i) later)
+  where
+    Answer : ℕ → Type 0
+    Answer n = ((n ≡ kept) × NonePasses test (a ∷ later)) ⊎ FirstPass test i (a ∷ later) n
+
+    more : test a ≡ false → (n : ℕ) → ((j : ℕ) → j < n → test (getD later j []) ≡ false) → (j : ℕ) → j < suc n → test (getD (a ∷ later) j []) ≡ false
+    more e n f zero h = e
+    more e n f (suc j) h = f j (omega arith)
+
+    go : (b : Bool) → test a ≡ b → ((firstIndex test (suc i) later ≡ kept) × NonePasses test later) ⊎ FirstPass test (suc i) later (firstIndex test (suc i) later)
+        → Answer (cond b i (firstIndex test (suc i) later))
+    go true e w = inr (0, sym (add-zero i), omega arith, (e, λ j h. absurd (omega arith)))
+    go false e (inl w) = inl (w .0, more e (length later) (w .1))
+    go false e (inr w) = let p : firstIndex test (suc i) later ≡ i + suc (w .0) = omega (arith, w .1) in inr (suc (w .0), p, omega (arith, w .2), (w .3 .0, more e (w .0) (w .3 .1)))
+
+before-not-empty : (a b : Sequence) → Before a b → 1 ≤ length b
+before-not-empty a (y ∷ b) h = omega arith
+before-not-empty a [] (inl h) = absurd (omega arith)
+before-not-empty [] [] (inr h) = absurd (h .1)
+before-not-empty (x ∷ a) [] (inr h) = absurd (h .1)
+
+-- ── The sequences of the indices ─────────────────────────────────────────────────────────────────
+
+module _ (set : RuleSet) (reach : ℕ) where
+  entries-length : length (sequences (set .count) reach) ≡ tableEntries set reach
+  unfolding tableEntries
+  entries-length = count-sequences (set .count) reach
+
+  pub entries-bound : set .count ≤ 31 → reach ≤ 3 → tableEntries set reach ≤ 30784
+  unfolding tableEntries
+  entries-bound h k = count-bound (set .count) reach h k
+
+  -- the sequence of an index has at most `reach` rules, of the set
+  pub index-sequence : (i : ℕ) → i < tableEntries set reach → (length (sequenceAt set reach i) ≤ reach) × Numbered (set .count) (sequenceAt set reach i)
+  unfolding sequenceAt
+  index-sequence i h = of-sequences (set .count) reach (in-getD (sequences (set .count) reach) i [] (omega (arith, entries-length)))
+
+  -- each such sequence has an index
+  pub sequence-index : (q : Sequence) → length q ≤ reach → Numbered (set .count) q → (i : ℕ) × (i < tableEntries set reach) × (sequenceAt set reach i ≡ q)
+  unfolding sequenceAt
+  sequence-index q h k = let w = index-at (set .count) reach q h k in (indexOf (set .count) q, subst (λ n. indexOf (set .count) q < n) entries-length (w .0), w .1)
+
+  -- a smaller index has the earlier sequence
+  pub index-before-iff : (i j : ℕ) → i < tableEntries set reach → j < tableEntries set reach → (i < j) ↔ Before (sequenceAt set reach i) (sequenceAt set reach j)
+  unfolding sequenceAt
+  index-before-iff i j hi hj =
+      (λ h. sequences-index (set .count) reach i j h (omega (arith, entries-length)), index-sequences (set .count) reach i j (omega (arith, entries-length)) (omega (arith, entries-length)))
+
+  -- ── Acceptance ─────────────────────────────────────────────────────────────────────────────────
+
+  -- the entry of an index is 65535, or a justified mark
+  pub entry-justified-iff : (table : List ℕ) (i : ℕ) → (entryJustified set reach table i ≡ true) ↔ (entryAt table i ≢ kept → MarkJustified set reach table i)
+  unfolding entryJustified
+  entry-justified-iff table i = unless-iff _ _ (eqb-iff (entryAt table i) kept) (and-iff _ _ (ltb-iff (entryAt table i) i) (redundant-iff set (sequenceAt set reach i) (sequenceAt set reach (entryAt table i))))
+
+  -- a table is accepted exactly if each of its marks is justified
+  pub accepted-iff : (table : List ℕ) → (accepted set reach table ≡ true) ↔ Accepted set reach table
+  unfolding accepted
+  accepted-iff table = and-iff _ _ (eqb-iff (entryAt table 0) kept) (every-below-iff _ _ (entry-justified-iff table) (tableEntries set reach))
+
+  -- ── Marks ──────────────────────────────────────────────────────────────────────────────────────
+
+  pub marked-iff : (table : List ℕ) (q : Sequence) → (marked set reach table q ≡ true) ↔ Marked set reach table q
+  unfolding marked
+  marked-iff table q =
+      any-below-iff _ _ (λ i. and-iff _ _ (same-rev-iff q (sequenceAt set reach i)) (not-iff _ (eqb-iff (entryAt table i) kept))) (tableEntries set reach)
+
+  -- a marked sequence has at most `reach` rules, of the set
+  pub marked-short : (table : List ℕ) (q : Sequence) → marked set reach table q ≡ true → (length q ≤ reach) × Numbered (set .count) q
+  marked-short table q e = let w = marked-iff table q .0 e in subst (λ b. (length b ≤ reach) × Numbered (set .count) b) (w .2 .0) (index-sequence (w .0) (w .1))
+
+  -- the marks of an accepted table are justified
+  pub accepted-justified : (table : List ℕ) → accepted set reach table ≡ true → Justified (stepOf set) (ruleCost set) (set .count) (StateOf set) (marked set reach table)
+  accepted-justified table e b m =
+      let w = marked-iff table b .0 m in
+      let j = accepted-iff table .0 e .1 (w .0) (w .1) (w .2 .1) in
+      let h : entryAt table (w .0) < tableEntries set reach = omega (arith, w .1, j .0) in (
+        sequenceAt set reach (entryAt table (w .0)),
+        subst (Before (sequenceAt set reach (entryAt table (w .0)))) (w .2 .0) (index-before-iff (entryAt table (w .0)) (w .0) h (w .1) .0 (j .0)),
+        index-sequence (entryAt table (w .0)) h .1,
+        subst (λ q. RedundantIn set q (sequenceAt set reach (entryAt table (w .0)))) (w .2 .0) (j .1),
+      )
+
+  -- ── The built table ────────────────────────────────────────────────────────────────────────────
+
+  -- an entry is 65535 where no smaller index has a witness, and the smallest such index elsewhere
+  built-cases : (i : ℕ) → i < tableEntries set reach
+      → ((builtEntry set reach i ≡ kept) × ((k : ℕ) → k < i → redundant set (sequenceAt set reach i) (sequenceAt set reach k) ≡ false)) ⊎ LeastWitness set reach i (builtEntry set reach i)
+  unfolding builtEntry sequenceAt
+  built-cases i h = ⊎-elim (λ w. inl (w .0, none w)) (λ w. inr (least w)) (first-index test 0 (take i all))
+    where
+      all : List Sequence
+      all = sequences (set .count) reach
+
+      test : Sequence → Bool
+      test = redundant set (getD all i [])
+
+      size : length (take i all) ≡ i
+      size = length-take-le i all (omega (arith, entries-length))
+
+      at : (k : ℕ) → k < i → {b : Bool} → test (getD (take i all) k []) ≡ b → test (getD all k []) ≡ b
+      at k l e = ap test (sym (getD-take i all k [] l)) ∙ e
+
+      none : (firstIndex test 0 (take i all) ≡ kept) × NonePasses test (take i all) → (k : ℕ) → k < i → test (getD all k []) ≡ false
+      none w k l = at k l (w .1 k (omega (arith, size)))
+
+      least : FirstPass test 0 (take i all) (firstIndex test 0 (take i all)) → LeastWitness set reach i (firstIndex test 0 (take i all))
+      least w =
+          let e : firstIndex test 0 (take i all) ≡ w .0 = omega (arith, w .1) in
+          let l : w .0 < i = omega (arith, w .2, size) in
+          let first : (j : ℕ) → RedundantIn set (getD all i []) (getD all j []) → w .0 ≤ j =
+          λ j r. ⊎-elim (λ b. not-both (redundant-iff set (getD all i []) (getD all j []) .1 r) (at j (omega arith) (w .3 .1 j b))) (λ b. b) (below? j (w .0)) in
+          subst (LeastWitness set reach i) (sym e) (l, (redundant-iff set (getD all i []) (getD all (w .0) []) .0 (at (w .0) l (w .3 .0)), first))
+
+  -- each entry of the built table
+  pub built-entry : (i : ℕ) → i < tableEntries set reach → entryAt (builtTable set reach) i ≡ builtEntry set reach i
+  unfolding builtTable
+  built-entry i h = entry-of (builtEntry set reach) 0 (tableEntries set reach) i h ∙ ap (builtEntry set reach) (zero-add i)
+
+  pub built-length : length (builtTable set reach) ≡ 2 * tableEntries set reach
+  unfolding builtTable
+  built-length = entries-size (builtEntry set reach) (numbersFrom 0 (tableEntries set reach)) ∙ ap (λ n. 2 * n) (length-numbersFrom 0 (tableEntries set reach))
+
+  -- a mark of the built table is the smallest index with whose sequence its own is redundant
+  pub built-least : (i : ℕ) → i < tableEntries set reach → builtEntry set reach i ≢ kept → LeastWitness set reach i (builtEntry set reach i)
+  built-least i h m = ⊎-elim (λ w. absurd (m (w .0))) (λ w. w) (built-cases i h)
+
+  module _ (rules : set .count ≤ 31) (near : reach ≤ 3) where
+    -- an entry of the built table is an index or 65535, and fits two bytes
+    pub built-fits : (i : ℕ) → i < tableEntries set reach → builtEntry set reach i ≤ 65535
+    built-fits i h = ⊎-elim (λ w. omega (arith, w .0)) (λ w. omega (arith, w .0, entries-bound rules near)) (built-cases i h)
+
+    pub built-byte : (j : ℕ) → getD (builtTable set reach) j 0 < 256
+    unfolding builtTable
+    built-byte = entries-byte (builtEntry set reach) (numbersFrom 0 (tableEntries set reach)) (λ i d. let b = of-numbersFrom 0 (tableEntries set reach) d in omega (arith, built-fits i (omega arith)))
+
+    -- the built table marks exactly the indices of prunable sequences
+    pub built-mark-iff : (i : ℕ) → i < tableEntries set reach → (builtEntry set reach i ≢ kept) ↔ Prunable set reach (sequenceAt set reach i)
+    built-mark-iff i h = (λ m. prunable (built-least i h m), λ p. ⊎-elim (λ w. absurd (found p (w .1))) (λ w e. omega (arith, w .0, e, entries-bound rules near)) (built-cases i h))
+      where
+        prunable : LeastWitness set reach i (builtEntry set reach i) → Prunable set reach (sequenceAt set reach i)
+        prunable w =
+            let k : builtEntry set reach i < tableEntries set reach = omega (arith, w .0) in
+            let b = index-before-iff (builtEntry set reach i) i k h .0 (w .0) in
+            let s = index-sequence (builtEntry set reach i) k in
+            record {
+              rules = index-sequence i h .1;
+              notEmpty = before-not-empty (sequenceAt set reach (builtEntry set reach i)) (sequenceAt set reach i) b;
+              short = omega (arith, index-sequence i h .0);
+              witness = sequenceAt set reach (builtEntry set reach i);
+              earlier = b;
+              witnessShort = s .0;
+              witnessRules = s .1;
+              redundantWith = w .1 .0;
+            }
+
+        -- a witness has a smaller index
+        found : Prunable set reach (sequenceAt set reach i) → ((k : ℕ) → k < i → redundant set (sequenceAt set reach i) (sequenceAt set reach k) ≡ false) → ⊥
+        found p none =
+            let w = sequence-index (p .witness) (p .witnessShort) (p .witnessRules) in
+            let b = subst (λ a. Before a (sequenceAt set reach i)) (sym (w .2)) (p .earlier) in
+            let r = subst (RedundantIn set (sequenceAt set reach i)) (sym (w .2)) (p .redundantWith) in
+            not-both (redundant-iff set _ _ .1 r) (none (w .0) (index-before-iff (w .0) i (w .1) h .1 b))
+
+    -- the built table marks exactly the prunable sequences
+    pub built-marks-iff : (q : Sequence) → (marked set reach (builtTable set reach) q ≡ true) ↔ Prunable set reach q
+    built-marks-iff q = (down, up)
+      where
+        down : marked set reach (builtTable set reach) q ≡ true → Prunable set reach q
+        down e =
+            let w = marked-iff (builtTable set reach) q .0 e in
+            subst (Prunable set reach) (w .2 .0) (built-mark-iff (w .0) (w .1) .0 (λ k. w .2 .1 (built-entry (w .0) (w .1) ∙ k)))
+
+        up : Prunable set reach q → marked set reach (builtTable set reach) q ≡ true
+        up p =
+            let w = sequence-index q (p .short) (p .rules) in
+            let m = built-mark-iff (w .0) (w .1) .1 (subst (Prunable set reach) (sym (w .2)) p) in
+            marked-iff (builtTable set reach) q .1 (w .0, w .1, (w .2, λ k. m (sym (built-entry (w .0) (w .1)) ∙ k)))
+
+  -- the built table is accepted
+  pub built-accepted : accepted set reach (builtTable set reach) ≡ true
+  built-accepted = accepted-iff (builtTable set reach) .1 (built-entry 0 some ∙ ⊎-elim (λ w. w .0) (λ w. absurd (omega (arith, w .0))) (built-cases 0 some), each)
+    where
+      some : 0 < tableEntries set reach
+      some = omega (arith, sequence-index [] (omega arith) tt .1)
+
+      each : (i : ℕ) → i < tableEntries set reach → entryAt (builtTable set reach) i ≢ kept → MarkJustified set reach (builtTable set reach) i
+      each i h m =
+          let e = built-entry i h in
+          let w = built-least i h (λ k. m (e ∙ k)) in
+          subst (λ n. (n < i) × RedundantIn set (sequenceAt set reach i) (sequenceAt set reach n)) (sym e) (w .0, w .1 .0)
+
+  -- a sequence of 1 to `reach` rules that no state admits is prunable, by the empty one
+  pub not-admitted-prunable : (q : Sequence) → Numbered (set .count) q → 1 ≤ length q → length q ≤ reach → admitted set q ≡ false → Prunable set reach q
+  not-admitted-prunable q n h k e =
+      record {
+        rules = n;
+        notEmpty = h;
+        short = k;
+        witness = [];
+        earlier = inl h;
+        witnessShort = omega arith;
+        witnessRules = tt;
+        redundantWith = not-admitted-redundant set q e;
+      }

@@ -1,0 +1,1 @@
+// Pruning tables: definitions and laws; the calls are to come.
