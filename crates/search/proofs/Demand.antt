@@ -1,0 +1,137 @@
+-- Demand 3, of the definition `searched`: its sentences over all rule sequences, for every query that is not refused.
+-- Assumes nothing.
+use mathlib.Core.Path.{_≡_, refl, sym, ap, _∙_, subst}
+use mathlib.Core.Logic.{_⊎_, inl, inr}
+use mathlib.Core.Bool.{Bool, true, false, not}
+use mathlib.Core.Option.{Option, some, none}
+use mathlib.Core.List.{List, [], _∷_, _++_}
+use mathlib.Core.List.{List·Memᴰ·not-nil}
+use Prim.Native.Nat.{ℕ, _-_, _≤_, _<_}
+use native.Mathlib.Omega.{arith}
+use lib.Dec.{ltb}
+use lib.ListN.{length, replicate}
+use Rattle.theory.specs.Lists.{_∈_, isSome, padded}
+use Rattle.theory.specs.Sequences.{Sequence}
+use Rattle.theory.specs.Plans.{Preferred, Least}
+use Rattle.theory.proofs.ListLaws.{ltb-true, ltb-false}
+use Rattle.theory.proofs.CheapestLaws.{cheapest-none, cheapest-least}
+use Rattle.model.specs.Refusals.{Cause, firstRefusal, NonZero}
+use Rattle.model.specs.Rules.{ruleCost, sequenceCost}
+use Rattle.model.specs.declared.RuleSet.{RuleSet}
+use Rattle.model.proofs.RefusalLaws.{no-refusal-iff, refusal-append}
+use Rattle.pruning.specs.Answers.{tableCauses}
+use Rattle.search.specs.Query.{Query, visitedBy, plansFor, LeadsToGoal}
+use Rattle.search.specs.Searched.{queryCauses, cheapestPlan, searchCauses, shownPlan, planOf, noMove, searchedWith, searched, NotRefused, Demand3}
+use Rattle.search.proofs.VisitedLaws.{visited-iff, visited-once, plans-iff, plans-ordered}
+
+query-numbers : (set : RuleSet) (query : Query) → NonZero (queryCauses set query)
+unfolding queryCauses tableCauses
+query-numbers set query = (λ e. omega arith, (λ e. omega arith, (λ e. omega arith, (λ e. omega arith, (λ e. omega arith, (λ e. omega arith, (λ e. omega arith, (λ e. omega arith, tt))))))))
+
+-- a buffer with no plan in it
+pub blank-buffer : (size : ℕ) → padded size noMove [] ≡ replicate size noMove
+blank-buffer size = let e : size - 0 ≡ size = omega arith in ap (λ n. replicate n noMove) e
+
+module _ (set : RuleSet) (query : Query) where
+  abbrev count : ℕ
+  count = length (visitedBy set query)
+
+  -- the three ways in which a query ends that is not refused, with the outcome of each
+  abbrev Limited : ℕ → Type 0
+  Limited outcome = (query .stepLimit < count) × (outcome ≡ 16)
+
+  abbrev Unsolvable : ℕ → Type 0
+  Unsolvable outcome = (count ≤ query .stepLimit) × (cheapestPlan set query ≡ none) × (outcome ≡ 15)
+
+  abbrev Solved : ℕ → Type 0
+  Solved outcome = (count ≤ query .stepLimit) × ((p : Sequence) × (cheapestPlan set query ≡ some p)) × (outcome ≡ 0)
+
+  ways : firstRefusal (queryCauses set query) ≡ 0 → Limited (firstRefusal (searchCauses set query)) ⊎ (Unsolvable (firstRefusal (searchCauses set query)) ⊎ Solved (firstRefusal (searchCauses set query)))
+  unfolding searchCauses
+  ways h = byCount (ltb (query .stepLimit) count) refl (cheapestPlan set query) refl
+    where
+      last : List Cause
+      last = (16, ltb (query .stepLimit) count) ∷ (15, not (isSome (cheapestPlan set query))) ∷ []
+
+      outcome : ℕ
+      outcome = firstRefusal (queryCauses set query ++ last)
+
+      begins : outcome ≡ firstRefusal last
+      begins = refusal-append (queryCauses set query) last (query-numbers set query) h
+
+      byCount : (b : Bool) → ltb (query .stepLimit) count ≡ b → (o : Option Sequence) → cheapestPlan set query ≡ o → Limited outcome ⊎ (Unsolvable outcome ⊎ Solved outcome)
+      byCount true e o k = inl (ltb-true (query .stepLimit) count e, begins ∙ ap (λ b. firstRefusal ((16, b) ∷ (15, not (isSome (cheapestPlan set query))) ∷ [])) e)
+      byCount false e none k =
+          inr (inl (ltb-false (query .stepLimit) count e, k, begins ∙ ap (λ b. firstRefusal ((16, b) ∷ (15, not (isSome (cheapestPlan set query))) ∷ [])) e ∙ ap (λ p. firstRefusal ((15, not (isSome p)) ∷ [])) k))
+      byCount false e (some p) k =
+          inr (inr (ltb-false (query .stepLimit) count e, (p, k), begins ∙ ap (λ b. firstRefusal ((16, b) ∷ (15, not (isSome (cheapestPlan set query))) ∷ [])) e ∙ ap (λ p. firstRefusal ((15, not (isSome p)) ∷ [])) k))
+
+  -- where there is no cheapest plan, no sequence leads to the goal
+  none-leads : cheapestPlan set query ≡ none → (q : Sequence) → LeadsToGoal set query q → ⊥
+  unfolding cheapestPlan
+  none-leads e q h = List·Memᴰ·not-nil (subst (λ l. q ∈ l) (cheapest-none (ruleCost set) (plansFor set query) e) (plans-iff set query q .1 h))
+
+  -- the cheapest plan leads to the goal, and is preferred to every other sequence that does
+  pub cheapest-leads : (p : Sequence) → cheapestPlan set query ≡ some p → LeadsToGoal set query p × ((q : Sequence) → LeadsToGoal set query q → (q ≡ p) ⊎ Preferred (ruleCost set) p q)
+  unfolding cheapestPlan
+  cheapest-leads p e =
+      let least : Least (ruleCost set) (plansFor set query) p = cheapest-least (ruleCost set) (plansFor set query) (plans-ordered set query) p e in
+      (plans-iff set query p .0 (least .0), λ q h. least .1 q (plans-iff set query q .1 h))
+
+  shown-plan : (p : Sequence) → cheapestPlan set query ≡ some p → shownPlan set query 0 ≡ p
+  unfolding shownPlan
+  shown-plan p e = ap planOf e
+
+  -- demand 3: what holds of the answer of every query that is not refused
+  pub demand-3 : NotRefused set query → Demand3 set query (searched set query)
+  unfolding searched searchedWith shownPlan sequenceCost
+  demand-3 h = byWay (firstRefusal (searchCauses set query)) (ways (no-refusal-iff (queryCauses set query) (query-numbers set query) .1 h))
+    where
+      Holds : ℕ → Type 0
+      Holds outcome = Demand3 set query (searchedWith set query outcome)
+
+      limited : query .stepLimit < count → Holds 16
+      limited above =
+          record {
+            counted = visited-iff set query;
+            once = visited-once set query;
+            steps = refl;
+            limitExceeded = (λ _. above, λ _. refl);
+            noPlan = λ n. absurd (n refl);
+            planFound = λ n. absurd (n refl);
+            cheapestShown = λ e. absurd (omega arith);
+            blank = λ _. (refl, refl, blank-buffer (query .planSize));
+          }
+
+      unsolvable : count ≤ query .stepLimit → cheapestPlan set query ≡ none → Holds 15
+      unsolvable under e =
+          record {
+            counted = visited-iff set query;
+            once = visited-once set query;
+            steps = refl;
+            limitExceeded = (λ k. absurd (omega arith), λ k. absurd (omega arith));
+            noPlan = λ _. (λ _. none-leads e, λ _. refl);
+            planFound = λ _ n. absurd (n refl);
+            cheapestShown = λ k. absurd (omega arith);
+            blank = λ _. (refl, refl, blank-buffer (query .planSize));
+          }
+
+      solved : count ≤ query .stepLimit → (p : Sequence) → cheapestPlan set query ≡ some p → Holds 0
+      solved under p e =
+          let leads = cheapest-leads p e in
+          let shown : shownPlan set query 0 ≡ p = shown-plan p e in
+          record {
+            counted = visited-iff set query;
+            once = visited-once set query;
+            steps = refl;
+            limitExceeded = (λ k. absurd (omega arith), λ k. absurd (omega arith));
+            noPlan = λ _. (λ k. absurd (omega arith), λ n. absurd (n p (leads .0)));
+            planFound = λ _ _. refl;
+            cheapestShown = λ _. (p, leads .0, ap (sequenceCost set) shown, ap length shown, ap (padded (query .planSize) noMove) shown, leads .1);
+            blank = λ n. absurd (n refl);
+          }
+
+      byWay : (outcome : ℕ) → Limited outcome ⊎ (Unsolvable outcome ⊎ Solved outcome) → Holds outcome
+      byWay outcome (inl w) = subst Holds (sym (w .1)) (limited (w .0))
+      byWay outcome (inr (inl w)) = subst Holds (sym (w .2)) (unsolvable (w .0) (w .1))
+      byWay outcome (inr (inr w)) = subst Holds (sym (w .2)) (solved (w .0) (w .1 .0) (w .1 .1))

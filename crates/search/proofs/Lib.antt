@@ -1,0 +1,5 @@
+pub mod VisitedLaws
+pub mod Demand
+pub mod PlanVisited
+pub mod AnswerLaws
+pub mod TallyLaws

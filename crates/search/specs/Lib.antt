@@ -1,0 +1,4 @@
+pub mod Query
+pub mod Searched
+pub mod PlanPart
+pub mod Tallies

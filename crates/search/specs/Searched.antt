@@ -1,0 +1,101 @@
+-- What a search answers: demand 3. Once the query is not refused, the answer speaks of all rule sequences, and of the table only through the number of unpruned ones.
+use mathlib.Core.Path.{_≡_}
+use mathlib.Core.Logic.{_⊎_, _↔_}
+use mathlib.Core.Bool.{Bool, not, cond}
+use mathlib.Core.Option.{Option, some, none}
+use mathlib.Core.List.{List, [], _∷_, _++_}
+use Prim.Native.Nat.{ℕ, min, _<_}
+use lib.Dec.{ltb, eqb}
+use lib.ListN.{length, replicate}
+use Rattle.theory.specs.Lists.{_∈_, any, isSome, padded, Pairwise}
+use Rattle.theory.specs.Sequences.{Sequence}
+use Rattle.theory.specs.Plans.{cheapest, Preferred}
+use Rattle.model.specs.Refusals.{Cause, firstRefusal, NoneHolds}
+use Rattle.model.specs.Rules.{ruleCost, sequenceCost}
+use Rattle.model.specs.declared.RuleSet.{RuleSet}
+use Rattle.pruning.specs.Table.{accepted}
+use Rattle.pruning.specs.Answers.{tableCauses}
+use Rattle.search.specs.Query.{Query, startFits, goalFits, visitedBy, plansFor, RunsWithin, LeadsToGoal, Unpruned}
+use Rattle.search.specs.declared.Answer.{Answer}
+
+-- the causes for which a query is refused before any sequence is visited, in document 01's order:
+-- set, reach, table length, start, goal, more than 32 moves, plan buffer shorter than the move bound, table not accepted
+unfoldable pub queryCauses : RuleSet → Query → List Cause
+queryCauses set query =
+    tableCauses set (query .reach) (length (query .table))
+    ++ ((9, not (startFits set (query .start)))
+    ∷ (10, not (goalFits set (query .goal)))
+    ∷ (11, ltb 32 (query .maxMoves))
+    ∷ (12, ltb (query .planSize) (query .maxMoves))
+    ∷ (14, not (accepted set (query .reach) (query .table)))
+    ∷ [])
+
+-- the cheapest of all plans, the first of these in document 01's order
+unfoldable pub cheapestPlan : RuleSet → Query → Option Sequence
+cheapestPlan set query = cheapest (ruleCost set) (plansFor set query)
+
+-- all causes of a search: last, more sequences to visit than the step limit; no plan
+unfoldable pub searchCauses : RuleSet → Query → List Cause
+searchCauses set query = queryCauses set query ++ ((16, ltb (query .stepLimit) (length (visitedBy set query))) ∷ (15, not (isSome (cheapestPlan set query))) ∷ [])
+
+-- the outcomes of a query that is not refused: a plan (0), no plan (15), step limit exceeded (16, document 01: spent)
+abbrev pub isAnswer : ℕ → Bool
+isAnswer outcome = any (eqb outcome) (0 ∷ 15 ∷ 16 ∷ [])
+
+abbrev pub planOf : Option Sequence → Sequence
+planOf none = []
+planOf (some q) = q
+
+-- the plan shown: empty unless the outcome is 0
+unfoldable pub shownPlan : RuleSet → Query → ℕ → Sequence
+shownPlan set query outcome = cond (eqb outcome 0) (planOf (cheapestPlan set query)) []
+
+-- the byte of the plan buffer where there is no move
+abbrev pub noMove : ℕ
+noMove = 255
+
+-- an answer, and the plan buffer after the call
+pub record Searched : Type 0 where
+  pub answer : Answer
+  pub plan : List ℕ
+
+-- what a search leaves with an outcome: the cost and the length of the plan shown, the steps, and the plan's rule numbers with 255 in every other byte
+unfoldable pub searchedWith : RuleSet → Query → ℕ → Searched
+searchedWith set query outcome =
+    record {
+      answer = record {
+        outcome = outcome;
+        cost = sequenceCost set (shownPlan set query outcome);
+        length = length (shownPlan set query outcome);
+        steps = cond (isAnswer outcome) (min (length (visitedBy set query)) (query .stepLimit)) 0;
+      };
+      plan = padded (query .planSize) noMove (shownPlan set query outcome);
+    }
+
+-- what a search leaves
+unfoldable pub searched : RuleSet → Query → Searched
+searched set query = searchedWith set query (firstRefusal (searchCauses set query))
+
+-- ── Demand 3 as statements over all rule sequences ───────────────────────────────────────────────
+
+-- the query is not refused; so its table is accepted
+abbrev pub NotRefused : RuleSet → Query → Type 0
+NotRefused set query = NoneHolds (queryCauses set query)
+
+-- what then holds of its answer
+pub record Demand3 (set : RuleSet) (query : Query) (found : Searched) : Type 0 where
+  -- the counted sequences are the unpruned ones that can be run from the start within both bounds, each once
+  pub counted : (q : Sequence) → (q ∈ visitedBy set query) ↔ (RunsWithin set query q × Unpruned set query q)
+  pub once : Pairwise (λ (a b : Sequence). a ≡ b → ⊥) (visitedBy set query)
+  pub steps : found .answer .steps ≡ min (length (visitedBy set query)) (query .stepLimit)
+  -- the limit is exceeded (document 01: spent) exactly if their number is above it
+  pub limitExceeded : (found .answer .outcome ≡ 16) ↔ (query .stepLimit < length (visitedBy set query))
+  -- if it is not, no plan exactly if no rule sequence at all leads to the goal within both bounds; otherwise a plan is found
+  pub noPlan : (found .answer .outcome ≡ 16 → ⊥) → (found .answer .outcome ≡ 15) ↔ ((q : Sequence) → LeadsToGoal set query q → ⊥)
+  pub planFound : (found .answer .outcome ≡ 16 → ⊥) → (found .answer .outcome ≡ 15 → ⊥) → found .answer .outcome ≡ 0
+  -- the plan found is one of those sequences, its cost is the cost shown, and every other one costs more, or costs as much and comes later
+  pub cheapestShown : found .answer .outcome ≡ 0
+      → (p : Sequence) × LeadsToGoal set query p × (found .answer .cost ≡ sequenceCost set p) × (found .answer .length ≡ length p) × (found .plan ≡ padded (query .planSize) noMove p)
+      × ((q : Sequence) → LeadsToGoal set query q → (q ≡ p) ⊎ Preferred (ruleCost set) p q)
+  -- with any other outcome no plan is shown, and the whole plan buffer is blank
+  pub blank : (found .answer .outcome ≡ 0 → ⊥) → (found .answer .cost ≡ 0) × (found .answer .length ≡ 0) × (found .plan ≡ replicate (query .planSize) noMove)

@@ -1,0 +1,55 @@
+-- The tally of a caller's queries: five 64-bit counts that stay at their top value.
+use mathlib.Core.Path.{_≡_}
+use mathlib.Core.Bool.{Bool, not, cond}
+use mathlib.Core.List.{List, [], _∷_}
+use Prim.Native.Nat.{ℕ, _+_, _<_, min}
+use lib.Dec.{eqb}
+use lib.ListN.{getD, set as replace}
+use Rattle.model.specs.declared.RuleSet.{RuleSet}
+use Rattle.search.specs.Query.{Query}
+use Rattle.search.specs.Searched.{isAnswer, Searched, searched}
+use Rattle.search.specs.declared.Tally.{Tally}
+
+-- the top value of a 64-bit count
+abbrev pub top : ℕ
+top = 18446744073709551615
+
+-- a count raised by a number, at most to its top
+abbrev pub raised : ℕ → ℕ → ℕ
+raised count by = min (count + by) top
+
+-- raised by 1 where the test passes
+abbrev pub raisedIf : Bool → ℕ → ℕ
+raisedIf hit count = cond hit (raised count 1) count
+
+-- the tally after a query: plans (0), no plan (15), step limit exceeded (16, document 01: spent), refused (the rest), and the sum of steps
+unfoldable pub talliedOf : Tally → ℕ → ℕ → Tally
+talliedOf tally outcome steps =
+    record {
+      solved = raisedIf (eqb outcome 0) (tally .solved);
+      unsolvable = raisedIf (eqb outcome 15) (tally .unsolvable);
+      limited = raisedIf (eqb outcome 16) (tally .limited);
+      refused = raisedIf (not (isAnswer outcome)) (tally .refused);
+      steps = raised (tally .steps) steps;
+    }
+
+-- what a query with a tally leaves
+pub record Queried : Type 0 where
+  pub found : Searched
+  pub tally : Tally
+
+-- a search, and then the update of the caller's tally
+unfoldable pub queried : RuleSet → Query → Tally → Queried
+queried set query tally =
+    let found = searched set query in
+    record { found = found; tally = talliedOf tally (found .answer .outcome) (found .answer .steps) }
+
+-- ── As a statement ───────────────────────────────────────────────────────────────────────────────
+
+-- the first four counts: one for each kind of outcome
+abbrev pub counts : Tally → List ℕ
+counts tally = tally .solved ∷ tally .unsolvable ∷ tally .limited ∷ tally .refused ∷ []
+
+-- just one of the four is raised by 1, unless it is at its top, and the others stay
+abbrev pub OneRaised : Tally → Tally → Type 0
+OneRaised before after = (i : ℕ) × (i < 4) × (counts after ≡ replace (counts before) i (raised (getD (counts before) i 0) 1))
