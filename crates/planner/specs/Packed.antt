@@ -1,0 +1,28 @@
+-- The C entry of the search: it takes the rule text in place of a set, gives the answer as one 64-bit number, and has no tally.
+use mathlib.Core.Bool.{cond}
+use mathlib.Core.List.{List}
+use Prim.Native.Nat.{ℕ, _+_, _*_}
+use lib.Dec.{eqb}
+use lib.ListN.{length, replicate}
+use Rattle.rules.specs.Reading.{reading}
+use Rattle.search.specs.Query.{Query}
+use Rattle.search.specs.Searched.{Searched, searched, noMove}
+use Rattle.search.specs.declared.Answer.{Answer}
+
+-- the outcome in the low byte, the length in the next, the cost in the next 16 bits, the steps in the top 32
+unfoldable pub packed : Answer → ℕ
+packed answer = answer .outcome + 256 * answer .length + 65536 * answer .cost + 4294967296 * answer .steps
+
+-- what a refused rule text leaves: its outcome, no cost, no length, no steps, and a blank plan buffer
+unfoldable pub textRefused : ℕ → ℕ → Searched
+textRefused outcome room = record { answer = record { outcome = outcome; cost = 0; length = 0; steps = 0 }; plan = replicate room noMove }
+
+-- the search of a rule text: 1 to 4 of the text come before all else
+unfoldable pub searchedText : List ℕ → Query → Searched
+searchedText text query =
+    let read = reading text in
+    cond (eqb (read .outcome) 0) (searched (read .set) query) (textRefused (read .outcome) (query .planSize))
+
+-- the number that the entry gives
+unfoldable pub packedSearch : List ℕ → Query → ℕ
+packedSearch text query = packed (searchedText text query .answer)
