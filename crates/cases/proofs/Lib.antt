@@ -1,0 +1,4 @@
+pub mod Small
+pub mod Files
+pub mod Worked
+pub mod Further

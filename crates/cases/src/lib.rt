@@ -1,0 +1,1 @@
+// The worked cases of document 01, proved of the definitions.
