@@ -9,9 +9,9 @@ use Prim.Native.Nat.{ℕ, _≤_}
 use native.Mathlib.Omega.{arith}
 use lib.Dec.{eqb}
 use lib.ListN.{length}
+use borrow.Author.Tests.{not-false, eqb-true, ltb-false}
 use Rattle.theory.specs.Lists.{any, within}
 use Rattle.theory.specs.Sequences.{Numbered}
-use Rattle.theory.proofs.ListLaws.{not-false, eqb-true, ltb-false}
 use Rattle.theory.proofs.TestLaws.{within-iff}
 use Rattle.model.specs.Refusals.{firstRefusal, NonZero}
 use Rattle.model.specs.Rules.{sequenceCost}

@@ -6,8 +6,9 @@ use mathlib.Core.Bool.{Bool, true, false, cond, _&&_}
 use mathlib.Core.List.{List}
 use native.Mathlib.Omega.{arith}
 use lib.Dec.{leb, ltb}
+use borrow.Author.Tests.{leb-true, ltb-true}
 use Rattle.theory.specs.Lists.{within}
-use Rattle.theory.proofs.ListLaws.{and-split, leb-true, ltb-true}
+use Rattle.theory.proofs.ListLaws.{and-split}
 use Rattle.model.specs.States.{width}
 use Rattle.model.specs.Validity.{entryLimited, sizesValid, rulesValid, wellFormed}
 use Rattle.model.specs.declared.RuleSet.{RuleSet}

@@ -1,4 +1,4 @@
--- Laws of redundancy over all states of a rule set: its test, the test of what some state admits, and that it is reflexive and transitive.
+-- Laws of redundancy over all states of a rule set: its test, the test of what some state admits, and that it is transitive.
 -- Assumes nothing.
 use mathlib.Core.Path.{_≡_, refl, sym, ap, _∙_}
 use mathlib.Core.Logic.{_↔_, _⊎_, inl, inr}
@@ -58,9 +58,6 @@ not-admitted-iff set q = (λ e s v. down e s v (runIn set q s) refl, λ f. up f 
     up f (inr e) = e
 
 -- ── Redundancy ───────────────────────────────────────────────────────────────────────────────────
-
-pub redundant-refl : (set : RuleSet) (a : Sequence) → RedundantIn set a a
-redundant-refl set a = (omega arith, λ s t v e. e)
 
 pub redundant-trans : (set : RuleSet) (c b a : Sequence) → RedundantIn set c b → RedundantIn set b a → RedundantIn set c a
 redundant-trans set c b a p q = (omega arith, λ s t v e. q .1 s t v (p .1 s t v e))

@@ -36,17 +36,19 @@ stepOf set r s = onlyIf (applicable (ruleAt set r .condition) s) (successor (rul
 unfoldable pub ruleCost : RuleSet → ℕ → ℕ
 ruleCost set r = ruleAt set r .cost
 
--- a state of the set's sizes, and the list of all of them
+-- a state of the set's sizes
 abbrev pub StateOf : RuleSet → State → Type 0
 StateOf set s = IsState (set .positions) (set .sizes) s
 
+-- all of them
 unfoldable pub statesOf : RuleSet → List State
 statesOf set = states (set .positions) (set .sizes)
 
--- the state that a sequence leads to, and what it costs
+-- the state that a sequence leads to from s; none where it cannot be run
 unfoldable pub runIn : RuleSet → Sequence → State → Option State
 runIn set q s = run (stepOf set) q s
 
+-- what a sequence costs
 unfoldable pub sequenceCost : RuleSet → Sequence → ℕ
 sequenceCost set q = costOf (ruleCost set) q
 
@@ -58,11 +60,12 @@ admitted set q = any (λ s. isSome (runIn set q s)) (statesOf set)
 abbrev pub RedundantIn : RuleSet → Sequence → Sequence → Type 0
 RedundantIn set b a = Redundant (stepOf set) (ruleCost set) (StateOf set) b a
 
--- the same as a test. Where b ends, if it runs, there a ends
+-- where b ends, if it runs, there a ends
 abbrev pub sameEnd : Option State → Option State → Bool
 sameEnd none e = true
 sameEnd (some t) none = false
 sameEnd (some t) (some u) = same t u
 
+-- redundancy as a test
 unfoldable pub redundant : RuleSet → Sequence → Sequence → Bool
 redundant set b a = leb (sequenceCost set a) (sequenceCost set b) && every (λ s. sameEnd (runIn set b s) (runIn set a s)) (statesOf set)

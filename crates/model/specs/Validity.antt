@@ -34,11 +34,13 @@ effectPlaced positions sizes condition i e =
 
 -- ── The parts of a set ───────────────────────────────────────────────────────────────────────────
 
+-- every entry of a condition is within its limit and in place
 unfoldable pub conditionValid : ℕ → List ℕ → List ℕ → Bool
 conditionValid positions sizes condition =
     eqb (length condition) 16
     && every (λ i. entryLimited positions sizes i (getD condition i 0) && conditionPlaced positions sizes condition i (getD condition i 0)) places
 
+-- every entry of an effect, after its condition
 unfoldable pub effectValid : ℕ → List ℕ → List ℕ → List ℕ → Bool
 effectValid positions sizes condition effect =
     eqb (length effect) 16
@@ -48,6 +50,7 @@ effectValid positions sizes condition effect =
 unfoldable pub sizeValid : ℕ → List ℕ → ℕ → Bool
 sizeValid positions sizes i = cond (ltb i positions) (within 2 16 (getD sizes i 0)) (eqb (getD sizes i 0) 0)
 
+-- every size
 unfoldable pub sizesValid : ℕ → List ℕ → Bool
 sizesValid positions sizes = eqb (length sizes) 16 && every (sizeValid positions sizes) places
 
@@ -59,10 +62,12 @@ ruleValid positions sizes rule = leb (rule .cost) 255 && (conditionValid positio
 unfoldable pub ruleBlank : Rule → Bool
 ruleBlank rule = eqb (rule .cost) 0 && (same (rule .condition) (replicate 16 0) && same (rule .effect) (replicate 16 0))
 
+-- the rule at place k: valid where it is used, blank beyond
 unfoldable pub ruleValidAt : RuleSet → ℕ → Bool
 ruleValidAt set k =
     cond (ltb k (set .count)) (ruleValid (set .positions) (set .sizes) (getD (set .rules) k noRule)) (ruleBlank (getD (set .rules) k noRule))
 
+-- every rule
 unfoldable pub rulesValid : RuleSet → Bool
 rulesValid set = eqb (length (set .rules)) 31 && every (ruleValidAt set) (numbersFrom 0 31)
 

@@ -8,7 +8,7 @@ use Prim.Native.Nat.{ℕ, _*_}
 use native.Mathlib.Omega.{arith}
 use lib.Dec.{eqb}
 use lib.ListN.{length, replicate, length-replicate}
-use Rattle.theory.proofs.ListLaws.{not-false, eqb-true}
+use borrow.Author.Tests.{not-false, eqb-true}
 use Rattle.model.specs.Refusals.{firstRefusal, NonZero}
 use Rattle.model.specs.declared.RuleSet.{RuleSet}
 use Rattle.model.proofs.RefusalLaws.{no-refusal-iff, refusal-append}
@@ -26,15 +26,6 @@ module _ (set : RuleSet) (reach size : ℕ) where
   unfolding buildOutcome tableCauses
   built-room e = eqb-true size (2 * tableEntries set reach) (not-false (eqb size (2 * tableEntries set reach)) (no-refusal-iff (tableCauses set reach size) (table-numbers set reach size) .0 e .1 .1 .0))
 
-  -- the table keeps its length
-  pub built-size : length (builtBuffer set reach size) ≡ size
-  unfolding builtBuffer
-  built-size = go (eqb (buildOutcome set reach size) 0) refl
-    where
-      go : (b : Bool) → eqb (buildOutcome set reach size) 0 ≡ b → length (cond b (builtTable set reach) (replicate size 0)) ≡ size
-      go true e = built-length set reach ∙ sym (built-room (eqb-true (buildOutcome set reach size) 0 e))
-      go false e = length-replicate size 0
-
   -- a refused build zeroes the table
   pub built-refused : buildOutcome set reach size ≢ 0 → builtBuffer set reach size ≡ replicate size 0
   unfolding builtBuffer
@@ -43,6 +34,15 @@ module _ (set : RuleSet) (reach size : ℕ) where
       go : (b : Bool) → eqb (buildOutcome set reach size) 0 ≡ b → cond b (builtTable set reach) (replicate size 0) ≡ replicate size 0
       go true e = absurd (h (eqb-true (buildOutcome set reach size) 0 e))
       go false e = refl
+
+  -- the table keeps its length
+  pub built-size : length (builtBuffer set reach size) ≡ size
+  unfolding builtBuffer
+  built-size = go (eqb (buildOutcome set reach size) 0) refl
+    where
+      go : (b : Bool) → eqb (buildOutcome set reach size) 0 ≡ b → length (cond b (builtTable set reach) (replicate size 0)) ≡ size
+      go true e = built-length set reach ∙ sym (built-room (eqb-true (buildOutcome set reach size) 0 e))
+      go false e = length-replicate size 0
 
   -- a build that is not refused gives a table that the check passes
   pub built-checks : buildOutcome set reach size ≡ 0 → checkOutcome set reach (builtTable set reach) ≡ 0

@@ -9,8 +9,9 @@ use Prim.Native.String.{String}
 use native.Mathlib.Omega.{arith}
 use lib.Dec.{ltb, eqb}
 use lib.ListN.{length, getD, drop, replicate}
+use borrow.Author.Tests.{ltb-false, eqb-true}
 use Rattle.theory.specs.Lists.{within, padded}
-use Rattle.theory.proofs.ListLaws.{padded-length, ltb-false, eqb-true}
+use Rattle.theory.proofs.ListLaws.{padded-length}
 use Rattle.model.specs.Refusals.{firstRefusal}
 use Rattle.model.specs.Rules.{emptySet}
 use Rattle.model.specs.Validity.{conditionPlaced, effectPlaced, hasDuplicates}

@@ -55,6 +55,7 @@ abbrev pub decimalFrom : ℕ → List ℕ → ℕ
 decimalFrom n [] = n
 decimalFrom n (d ∷ ds) = decimalFrom (10 * n + (d - 48)) ds
 
+-- the number that digits stand for
 unfoldable pub decimal : List ℕ → ℕ
 decimal ds = decimalFrom 0 ds
 

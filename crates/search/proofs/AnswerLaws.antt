@@ -10,9 +10,10 @@ use Prim.Native.Nat.{ℕ, min, _≤_}
 use native.Mathlib.Omega.{arith}
 use lib.Dec.{eqb, lit≤}
 use lib.ListN.{length, replicate}
+use borrow.Author.Tests.{not-false, ltb-false, eqb-true}
 use Rattle.theory.specs.Lists.{isSome, padded}
 use Rattle.theory.specs.Sequences.{Sequence}
-use Rattle.theory.proofs.ListLaws.{not-false, of-isSome, padded-length, ltb-false, eqb-true}
+use Rattle.theory.proofs.ListLaws.{of-isSome, padded-length}
 use Rattle.model.specs.Refusals.{firstRefusal, NonZero}
 use Rattle.model.specs.Rules.{sequenceCost}
 use Rattle.model.specs.Validity.{valid, Valid}

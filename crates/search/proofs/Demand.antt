@@ -10,10 +10,10 @@ use Prim.Native.Nat.{ℕ, _-_, _≤_, _<_}
 use native.Mathlib.Omega.{arith}
 use lib.Dec.{ltb}
 use lib.ListN.{length, replicate}
+use borrow.Author.Tests.{ltb-true, ltb-false}
 use Rattle.theory.specs.Lists.{_∈_, isSome, padded}
 use Rattle.theory.specs.Sequences.{Sequence}
 use Rattle.theory.specs.Plans.{Preferred, Least}
-use Rattle.theory.proofs.ListLaws.{ltb-true, ltb-false}
 use Rattle.theory.proofs.CheapestLaws.{cheapest-none, cheapest-least}
 use Rattle.model.specs.Refusals.{Cause, firstRefusal, NonZero}
 use Rattle.model.specs.Rules.{ruleCost, sequenceCost}
@@ -66,17 +66,17 @@ module _ (set : RuleSet) (query : Query) where
       byCount false e (some p) k =
           inr (inr (ltb-false (query .stepLimit) count e, (p, k), begins ∙ ap (λ b. firstRefusal ((16, b) ∷ (15, not (isSome (cheapestPlan set query))) ∷ [])) e ∙ ap (λ p. firstRefusal ((15, not (isSome p)) ∷ [])) k))
 
-  -- where there is no cheapest plan, no sequence leads to the goal
-  none-leads : cheapestPlan set query ≡ none → (q : Sequence) → LeadsToGoal set query q → ⊥
-  unfolding cheapestPlan
-  none-leads e q h = List·Memᴰ·not-nil (subst (λ l. q ∈ l) (cheapest-none (ruleCost set) (plansFor set query) e) (plans-iff set query q .1 h))
-
   -- the cheapest plan leads to the goal, and is preferred to every other sequence that does
   pub cheapest-leads : (p : Sequence) → cheapestPlan set query ≡ some p → LeadsToGoal set query p × ((q : Sequence) → LeadsToGoal set query q → (q ≡ p) ⊎ Preferred (ruleCost set) p q)
   unfolding cheapestPlan
   cheapest-leads p e =
       let least : Least (ruleCost set) (plansFor set query) p = cheapest-least (ruleCost set) (plansFor set query) (plans-ordered set query) p e in
       (plans-iff set query p .0 (least .0), λ q h. least .1 q (plans-iff set query q .1 h))
+
+  -- where there is no cheapest plan, no sequence leads to the goal
+  none-leads : cheapestPlan set query ≡ none → (q : Sequence) → LeadsToGoal set query q → ⊥
+  unfolding cheapestPlan
+  none-leads e q h = List·Memᴰ·not-nil (subst (λ l. q ∈ l) (cheapest-none (ruleCost set) (plansFor set query) e) (plans-iff set query q .1 h))
 
   shown-plan : (p : Sequence) → cheapestPlan set query ≡ some p → shownPlan set query 0 ≡ p
   unfolding shownPlan

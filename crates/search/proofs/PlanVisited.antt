@@ -9,9 +9,9 @@ use mathlib.Core.List.{List, [], _∷_, _++_}
 use Prim.Native.Nat.{ℕ, zero, suc, _-_, _≤_, _<_}
 use native.Mathlib.Omega.{arith}
 use lib.ListN.{length, getD, replicate, length-append, length-replicate, List·getD-eq-default}
+use borrow.Author.Tests.{not-false}
 use Rattle.theory.specs.Lists.{_∈_}
 use Rattle.theory.specs.Sequences.{Sequence}
-use Rattle.theory.proofs.ListLaws.{not-false}
 use Rattle.theory.proofs.TestLaws.{below?, ltb-iff, eqb-iff, and-iff, every-below-iff}
 use Rattle.theory.proofs.PruningLaws.{cheapest-not-pruned}
 use Rattle.model.specs.States.{width}

@@ -5,7 +5,7 @@ use mathlib.Core.Bool.{Bool, true, false, not, _||_}
 use Prim.Native.Nat.{ℕ}
 use native.Mathlib.Omega.{arith}
 use lib.Dec.{eqb, lit<}
-use Rattle.theory.proofs.ListLaws.{eqb-true}
+use borrow.Author.Tests.{eqb-true}
 use Rattle.search.specs.Tallies.{raised, raisedIf, talliedOf, OneRaised}
 use Rattle.search.specs.declared.Tally.{Tally}
 

@@ -42,6 +42,7 @@ searchCauses set query = queryCauses set query ++ ((16, ltb (query .stepLimit) (
 abbrev pub isAnswer : ℕ → Bool
 isAnswer outcome = any (eqb outcome) (0 ∷ 15 ∷ 16 ∷ [])
 
+-- the plan; the empty sequence where there is none
 abbrev pub planOf : Option Sequence → Sequence
 planOf none = []
 planOf (some q) = q

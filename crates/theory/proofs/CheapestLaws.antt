@@ -9,11 +9,12 @@ use mathlib.Core.List.{List·Memᴰ·head, List·Memᴰ·tail, Memᴰ·append-ri
 use Prim.Native.Nat.{ℕ, _≤_, _<_}
 use native.Mathlib.Omega.{arith}
 use lib.Dec.{leb, ltb}
+use borrow.Author.Tests.{leb-true, leb-false, ltb-true, ltb-false}
 use Rattle.theory.specs.Lists.{_∈_, Pairwise}
 use Rattle.theory.specs.Sequences.{Sequence, costOf}
 use Rattle.theory.specs.Order.{Before}
 use Rattle.theory.specs.Plans.{noDearer, cheaper, cheapest, Preferred, Least}
-use Rattle.theory.proofs.ListLaws.{here, pairwise-behind, passes?, leb-true, leb-false, ltb-true, ltb-false}
+use Rattle.theory.proofs.ListLaws.{here, pairwise-behind, passes?}
 use Rattle.theory.proofs.OrderLaws.{before-irrefl, before-trans}
 
 -- ── Preference ───────────────────────────────────────────────────────────────────────────────────

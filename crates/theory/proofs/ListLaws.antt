@@ -1,13 +1,14 @@
 -- Laws of tests and of lists, as far as the libraries do not have them in this form. A test is a `Bool`; it passes where it is `≡ true`.
 -- Assumes nothing.
 use mathlib.Core.Path.{_≡_, refl, sym, ap, ap₂, _∙_, subst}
-use mathlib.Core.Logic.{_⊎_, inl, inr, _≢_}
-use mathlib.Core.Bool.{Bool, true, false, not, _&&_, _||_, true≢false, false≢true, or-assoc}
+use mathlib.Core.Logic.{_⊎_, inl, inr}
+use mathlib.Core.Bool.{Bool, true, false, _&&_, _||_, true≢false, false≢true, or-assoc}
 use mathlib.Core.Option.{Option, some, none}
 use mathlib.Core.List.{List, [], _∷_, _++_, map, append-assoc, map-append}
 use mathlib.Core.List.{List·Memᴰ·head, List·Memᴰ·tail, Memᴰ·append-left, Memᴰ·append-right, List·Memᴰ·append-cases, Memᴰ·of-map}
 use Prim.Native.Nat.{ℕ, zero, suc, _+_, _-_, _≤_, _<_}
-use lib.Dec.{T, leb, ltb, eqb, leb→le, le→leb, nleb→lt, nltb→le, eqb→eq, eqb-refl}
+use lib.Dec.{eqb}
+use borrow.Author.Tests.{eqb-true, eqb-false, eq-eqb}
 use native.Mathlib.Omega.{arith}
 use lib.ListN.{length, getD, replicate, length-append, length-replicate}
 use Rattle.theory.specs.Lists.{_∈_, keepIf, keep, any, every, Pairwise, isSome, padded, flat, numbersFrom, same}
@@ -21,17 +22,6 @@ passes? false = inr refl
 
 pub not-both {ℓ} : {X : Type ℓ} {b : Bool} → b ≡ true → b ≡ false → X
 not-both p q = absurd (true≢false (sym p ∙ q))
-
-pub not-true : {b : Bool} → b ≡ false → not b ≡ true
-not-true p = ap not p
-
-pub true-not : (b : Bool) → not b ≡ true → b ≡ false
-true-not true p = absurd (false≢true p)
-true-not false p = refl
-
-pub not-false : (b : Bool) → not b ≡ false → b ≡ true
-not-false true p = refl
-not-false false p = sym p
 
 -- a test that cannot pass fails
 pub never-true : (b : Bool) → (b ≡ true → ⊥) → b ≡ false
@@ -61,43 +51,6 @@ pub same-test : (a b : Bool) → (a ≡ true → b ≡ true) → (b ≡ true →
 same-test true b f g = sym (f refl)
 same-test false true f g = g refl
 same-test false false f g = refl
-
-T-true : (b : Bool) → T b → b ≡ true
-T-true true t = refl
-T-true false t = absurd t
-
-true-T : {b : Bool} → b ≡ true → T b
-true-T p = rw p tt
-
-false-T : {b : Bool} → b ≡ false → T (not b)
-false-T p = rw p tt
-
-pub leb-true : (m n : ℕ) → leb m n ≡ true → m ≤ n
-leb-true m n p = leb→le m n (true-T p)
-
-pub leb-false : (m n : ℕ) → leb m n ≡ false → n < m
-leb-false m n p = nleb→lt m n (false-T p)
-
-pub true-leb : (m n : ℕ) → m ≤ n → leb m n ≡ true
-true-leb m n h = T-true (leb m n) (le→leb m n h)
-
-pub ltb-true : (m n : ℕ) → ltb m n ≡ true → m < n
-ltb-true m n p = leb-true (suc m) n p
-
-pub ltb-false : (m n : ℕ) → ltb m n ≡ false → n ≤ m
-ltb-false m n p = nltb→le m n (false-T p)
-
-pub true-ltb : (m n : ℕ) → m < n → ltb m n ≡ true
-true-ltb m n h = true-leb (suc m) n h
-
-pub eqb-true : (m n : ℕ) → eqb m n ≡ true → m ≡ n
-eqb-true m n p = eqb→eq m n (true-T p)
-
-pub true-eqb : (m n : ℕ) → m ≡ n → eqb m n ≡ true
-true-eqb m n e = rw e (T-true (eqb n n) (eqb-refl n))
-
-pub eqb-false : (m n : ℕ) → eqb m n ≡ false → m ≢ n
-eqb-false m n p e = not-both (true-eqb m n e) p
 
 -- ── Membership ───────────────────────────────────────────────────────────────────────────────────
 
@@ -324,4 +277,4 @@ same-true (x ∷ a) (y ∷ b) h =
 
 pub same-refl : (a : List ℕ) → same a a ≡ true
 same-refl [] = refl
-same-refl (x ∷ a) = and-join (true-eqb x x refl) (same-refl a)
+same-refl (x ∷ a) = and-join (eq-eqb x x refl) (same-refl a)

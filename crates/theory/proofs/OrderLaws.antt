@@ -8,10 +8,11 @@ use Prim.Native.Nat.{ℕ, zero, suc, _≤_, _<_}
 use native.Mathlib.Omega.{arith}
 use lib.Dec.{ltb}
 use lib.ListN.{length, length-append, getD}
+use borrow.Author.Tests.{ltb-true, ltb-false}
 use Rattle.theory.specs.Lists.{_∈_, Pairwise, flat}
 use Rattle.theory.specs.Sequences.{Sequence, numbers, withFirst, level, sequences, depthFirst}
 use Rattle.theory.specs.Order.{LexBefore, Before}
-use Rattle.theory.proofs.ListLaws.{passes?, ltb-true, ltb-false, pairwise-append, pairwise-map, pairwise-flat, pairwise-imp, pairwise-getD}
+use Rattle.theory.proofs.ListLaws.{passes?, pairwise-append, pairwise-map, pairwise-flat, pairwise-imp, pairwise-getD}
 use Rattle.theory.proofs.SequenceLaws.{numbers-increase, of-withFirst, of-extend, of-level, of-sequences}
 
 -- ── The order of the two lists ───────────────────────────────────────────────────────────────────

@@ -10,13 +10,14 @@ use Prim.Native.Nat.{ℕ, zero, suc, _<_}
 use native.Mathlib.Omega.{arith}
 use lib.Dec.{ltb, eqb}
 use lib.ListN.{length}
+use borrow.Author.Tests.{ltb-true, lt-ltb, eqb-true, eq-eqb, le-leb, ltb-false}
 use Rattle.theory.specs.Lists.{_∈_, keep, keepIf, flat, Pairwise, isSome}
 use Rattle.theory.specs.Sequences.{Sequence, andThen, run, costOf, numbers, sequences, depthFirst}
 use Rattle.theory.specs.Order.{LexBefore, Before}
 use Rattle.theory.specs.Pruning.{pruned, Closed, Justified}
 use Rattle.theory.specs.Plans.{endsIn, reaches, isPlan, candidates, cheapest, Preferred, Least, allowed, isVisited, visited}
 use Rattle.theory.specs.Recursion.{enter, explore, allowedNext, better, improved, best, noted, overRules, enterWith, seek}
-use Rattle.theory.proofs.ListLaws.{or-split, or-left, or-right, ltb-true, true-ltb, eqb-true, true-eqb, and-split, and-join, here, in-keep, of-keep, pairwise-keep, passes?, not-both, true-leb, ltb-false}
+use Rattle.theory.proofs.ListLaws.{or-split, or-left, or-right, and-split, and-join, here, in-keep, of-keep, pairwise-keep, passes?, not-both}
 use Rattle.theory.proofs.SequenceLaws.{run-append, of-sequences, in-sequences, of-depthFirst, in-depthFirst}
 use Rattle.theory.proofs.OrderLaws.{sequences-ordered, depthFirst-ordered}
 use Rattle.theory.proofs.CheapestLaws.{preferred-trans, least-unique, cheapest-none, cheapest-least}
@@ -34,8 +35,8 @@ less-or x y c h = go (or-split (ltb x y) (eqb x y && c) h)
     go (inr e) = let w = and-split (eqb x y) c e in inr (eqb-true x y (w .0), w .1)
 
 or-less : (x y : ℕ) (c : Bool) → (x < y) ⊎ ((x ≡ y) × (c ≡ true)) → (ltb x y || (eqb x y && c)) ≡ true
-or-less x y c (inl h) = or-left (eqb x y && c) (true-ltb x y h)
-or-less x y c (inr h) = or-right (ltb x y) (and-join (true-eqb x y (h .0)) (h .1))
+or-less x y c (inl h) = or-left (eqb x y && c) (lt-ltb x y h)
+or-less x y c (inr h) = or-right (ltb x y) (and-join (eq-eqb x y (h .0)) (h .1))
 
 -- ── The fold finds the least ─────────────────────────────────────────────────────────────────────
 
@@ -145,7 +146,7 @@ module _ {A : Type 0} (step : ℕ → A → Option A) (cost : ℕ → ℕ) (m : 
       let w = of-depthFirst m maxMoves (v .0) in
       let b = and-split (isSome (run step q start)) (allowed cost marked maxCost q) (v .1) in
       let c = of-allowed cost marked maxCost q (b .1) in
-      in-keep (isPlan step cost start goal maxCost) (in-sequences m maxMoves q (w .0) (w .1)) (and-join (u .1) (true-leb (costOf cost q) maxCost (c .0)))
+      in-keep (isPlan step cost start goal maxCost) (in-sequences m maxMoves q (w .0) (w .1)) (and-join (u .1) (le-leb (costOf cost q) maxCost (c .0)))
 
   -- and a plan that is not pruned is among them
   plans-found : (q : Sequence) → q ∈ plans → pruned marked q ≡ false → q ∈ found

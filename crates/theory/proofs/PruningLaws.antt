@@ -10,12 +10,13 @@ use Prim.Native.Nat.{ℕ, _≤_}
 use native.Mathlib.Omega.{arith}
 use lib.Dec.{leb}
 use lib.ListN.{length}
+use borrow.Author.Tests.{leb-true, le-leb}
 use Rattle.theory.specs.Lists.{_∈_, keep}
 use Rattle.theory.specs.Sequences.{Sequence, andThen, run, costOf, Numbered, withFirst, sequences}
 use Rattle.theory.specs.Order.{Before}
 use Rattle.theory.specs.Pruning.{prefixes, segments, pruned, Closed, Redundant, Justified}
 use Rattle.theory.specs.Plans.{endsIn, isPlan, candidates, cheapest, Preferred, Least}
-use Rattle.theory.proofs.ListLaws.{here, any-true, true-any, in-keep, of-keep, pairwise-keep, and-split, and-join, leb-true, true-leb}
+use Rattle.theory.proofs.ListLaws.{here, any-true, true-any, in-keep, of-keep, pairwise-keep, and-split, and-join}
 use Rattle.theory.proofs.SequenceLaws.{of-withFirst, in-withFirst, run-split, run-join, cost-append, numbered-append, numbered-left, numbered-right, of-sequences, in-sequences}
 use Rattle.theory.proofs.OrderLaws.{before-length, before-nested, sequences-ordered}
 use Rattle.theory.proofs.CheapestLaws.{preferred-of, none-preferred, cheapest-least}
@@ -95,7 +96,7 @@ module _ {A : Type 0} (step : ℕ → A → Option A) (cost : ℕ → ℕ) (star
       (u .0, u .1, u .2, leb-true (costOf cost q) maxCost (w .1))
 
   pub in-plan : (q : Sequence) (t : A) → run step q start ≡ some t → goal t ≡ true → costOf cost q ≤ maxCost → isPlan step cost start goal maxCost q ≡ true
-  in-plan q t e h k = and-join (in-endsIn goal (run step q start) t e h) (true-leb (costOf cost q) maxCost k)
+  in-plan q t e h k = and-join (in-endsIn goal (run step q start) t e h) (le-leb (costOf cost q) maxCost k)
 
 -- ── Lemma 1: a redundant segment may be replaced ─────────────────────────────────────────────────
 

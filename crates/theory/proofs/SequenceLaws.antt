@@ -11,9 +11,10 @@ use native.Mathlib.Nat.{zero-add, add-assoc}
 use native.Mathlib.Omega.{arith}
 use lib.Dec.{leb}
 use lib.ListN.{length}
+use borrow.Author.Tests.{leb-true, leb-false}
 use Rattle.theory.specs.Lists.{_∈_, Pairwise, flat, numbersFrom}
 use Rattle.theory.specs.Sequences.{Sequence, andThen, run, costOf, numbers, Numbered, withFirst, level, sequences, depthFirst}
-use Rattle.theory.proofs.ListLaws.{passes?, leb-true, leb-false, here, in-flat, of-flat, of-numbersFrom, in-numbersFrom}
+use Rattle.theory.proofs.ListLaws.{passes?, here, in-flat, of-flat, of-numbersFrom, in-numbersFrom}
 
 -- ── Runs and costs of joined sequences ───────────────────────────────────────────────────────────
 

@@ -11,12 +11,13 @@ use native.Mathlib.Omega.{arith}
 use lib.Dec.{leb}
 use lib.ListN.{length, take, drop, length-append, length-drop, take-append-drop}
 use lib.Seq.{drop-at}
+use borrow.Author.Tests.{not-true, leb-true, leb-false, le-leb}
 use Rattle.theory.specs.Lists.{_∈_, any, keep, flat, isSome}
 use Rattle.theory.specs.Sequences.{Sequence, andThen, run, costOf, numbers, withFirst, depthFirst}
 use Rattle.theory.specs.Pruning.{prefixes, segments, pruned}
 use Rattle.theory.specs.Plans.{allowed, isVisited, visited}
 use Rattle.theory.specs.Recursion.{enter, explore, suffixes, shortSuffixes, last, allowedNext}
-use Rattle.theory.proofs.ListLaws.{of-isSome, here, any-true, true-any, in-keep, of-keep, keep-none, keep-pass, keep-flat, flat-same, map-flat, map-of-map, map-id, any-append, any-keep, and-split, and-join, passes?, same-test, not-both, not-true, true-not, leb-true, leb-false, true-leb}
+use Rattle.theory.proofs.ListLaws.{of-isSome, here, any-true, true-any, in-keep, of-keep, keep-none, keep-pass, keep-flat, flat-same, map-flat, map-of-map, map-id, any-append, any-keep, and-split, and-join, passes?, same-test, not-both}
 use Rattle.theory.proofs.SequenceLaws.{run-append, run-split, cost-append, of-numbers, in-numbers}
 use Rattle.theory.proofs.PruningLaws.{pruned-around}
 
@@ -26,10 +27,10 @@ module _ (cost : ℕ → ℕ) (marked : Sequence → Bool) (maxCost : ℕ) where
   pub of-allowed : (q : Sequence) → allowed cost marked maxCost q ≡ true → (costOf cost q ≤ maxCost) × (pruned marked q ≡ false)
   of-allowed q h =
       let w = and-split (leb (costOf cost q) maxCost) (not (pruned marked q)) h in
-      (leb-true (costOf cost q) maxCost (w .0), true-not (pruned marked q) (w .1))
+      (leb-true (costOf cost q) maxCost (w .0), not-true (pruned marked q) (w .1))
 
   pub in-allowed : (q : Sequence) → costOf cost q ≤ maxCost → pruned marked q ≡ false → allowed cost marked maxCost q ≡ true
-  in-allowed q h k = and-join (true-leb (costOf cost q) maxCost h) (not-true k)
+  in-allowed q h k = and-join (le-leb (costOf cost q) maxCost h) (ap not k)
 
   pub allowed-prefix : (x y : Sequence) → allowed cost marked maxCost (x ++ y) ≡ true → allowed cost marked maxCost x ≡ true
   allowed-prefix x y h = in-allowed x (let c = w .0 in omega (arith, cost-append cost x y)) (unpruned (passes? (pruned marked x)))
@@ -194,7 +195,7 @@ short-last marked n q = same-test (any marked (shortSuffixes n q)) (any (λ k. m
         let b = last k q in
         let lb : length b ≡ k = length-drop (length q - k) q ∙ omega arith in
         let d : b ∈ suffixes q = subst (λ p. b ∈ suffixes p) (take-append-drop (length q - k) q) (in-suffixes (take (length q - k) q) b (omega arith)) in
-        true-any marked (in-keep (λ b. leb (length b) n) d (true-leb (length b) n (omega arith))) (w .2)
+        true-any marked (in-keep (λ b. leb (length b) n) d (le-leb (length b) n (omega arith))) (w .2)
 
 -- ── The recursion with the test of one more rule ─────────────────────────────────────────────────
 
