@@ -28,7 +28,7 @@ module _ (positions : ℕ) (sizes : List ℕ) where
   limited-iff i e = cond-iff e 16 _ _ (ltb-iff e (width positions sizes i)) (ltb-iff (e - 16) positions)
 
   -- an entry of an effect
-  effect-entry-iff : (condition : List ℕ) (i e : ℕ) → ((entryLimited positions sizes i e && effectPlaced positions sizes condition i e) ≡ true) ↔ EntryValid positions sizes condition i e
+  pub effect-entry-iff : (condition : List ℕ) (i e : ℕ) → ((entryLimited positions sizes i e && effectPlaced positions sizes condition i e) ≡ true) ↔ EntryValid positions sizes condition i e
   unfolding effectPlaced
   effect-entry-iff condition i e =
       let tests = and-iff _ _ (limited-iff i e) (or-iff e 16 _ (and-iff _ _ (eqb-iff (width positions sizes (e - 16)) (width positions sizes i)) (eqb-iff (getD condition (e - 16) 0) e))) in (
@@ -37,7 +37,7 @@ module _ (positions : ℕ) (sizes : List ℕ) where
       )
 
   -- an entry of a condition
-  condition-entry-iff : (condition : List ℕ) (i e : ℕ)
+  pub condition-entry-iff : (condition : List ℕ) (i e : ℕ)
       → ((entryLimited positions sizes i e && conditionPlaced positions sizes condition i e) ≡ true) ↔ (EntryValid positions sizes condition i e × (16 ≤ e → e - 16 ≤ i))
   unfolding conditionPlaced
   condition-entry-iff condition i e =
@@ -48,19 +48,29 @@ module _ (positions : ℕ) (sizes : List ℕ) where
         λ v. tests .1 ((v .0 .constant, v .0 .position), λ h. (v .0 .equalSizes h, (v .1 h, v .0 .itself h))),
       )
 
+  -- every entry of a condition
+  pub condition-iff : (condition : List ℕ)
+      → (conditionValid positions sizes condition ≡ true)
+      ↔ ((length condition ≡ 16) × ((i : ℕ) → i < 16 → EntryValid positions sizes condition i (getD condition i 0) × (16 ≤ getD condition i 0 → getD condition i 0 - 16 ≤ i)))
+  unfolding conditionValid
+  condition-iff condition = and-iff _ _ (eqb-iff (length condition) 16) (every-below-iff _ _ (λ i. condition-entry-iff condition i (getD condition i 0)) 16)
+
+  -- every entry of an effect
+  pub effect-iff : (condition effect : List ℕ)
+      → (effectValid positions sizes condition effect ≡ true) ↔ ((length effect ≡ 16) × ((i : ℕ) → i < 16 → EntryValid positions sizes condition i (getD effect i 0)))
+  unfolding effectValid
+  effect-iff condition effect = and-iff _ _ (eqb-iff (length effect) 16) (every-below-iff _ _ (λ i. effect-entry-iff condition i (getD effect i 0)) 16)
+
   pub lines-iff : (condition effect : List ℕ) → ((conditionValid positions sizes condition && effectValid positions sizes condition effect) ≡ true) ↔ LinesValid positions sizes condition effect
-  unfolding conditionValid effectValid
   lines-iff condition effect =
-      let tests =
-      and-iff _ _ (and-iff _ _ (eqb-iff (length condition) 16) (every-below-iff _ _ (λ i. condition-entry-iff condition i (getD condition i 0)) 16))
-      (and-iff _ _ (eqb-iff (length effect) 16) (every-below-iff _ _ (λ i. effect-entry-iff condition i (getD effect i 0)) 16)) in (
+      let tests = and-iff _ _ (condition-iff condition) (effect-iff condition effect) in (
         λ t. let w = tests .0 t in record { conditionLength = w .0 .0; effectLength = w .1 .0; conditionEntries = λ i h. w .0 .1 i h .0; notLater = λ i h. w .0 .1 i h .1; effectEntries = w .1 .1 },
         λ v. tests .1 ((v .conditionLength, λ i h. (v .conditionEntries i h, v .notLater i h)), (v .effectLength, v .effectEntries)),
       )
 
   -- ── Sizes and rules ──────────────────────────────────────────────────────────────────────────────
 
-  sizes-iff : (sizesValid positions sizes ≡ true)
+  pub sizes-iff : (sizesValid positions sizes ≡ true)
       ↔ ((length sizes ≡ 16) × ((i : ℕ) → i < 16 → (i < positions → (2 ≤ getD sizes i 0) × (getD sizes i 0 ≤ 16)) × (positions ≤ i → getD sizes i 0 ≡ 0)))
   unfolding sizesValid sizeValid
   sizes-iff = and-iff _ _ (eqb-iff _ _) (every-below-iff _ _ (λ i. cond-iff i positions _ _ (within-iff 2 16 (getD sizes i 0)) (eqb-iff (getD sizes i 0) 0)) 16)
@@ -69,7 +79,7 @@ module _ (positions : ℕ) (sizes : List ℕ) where
   unfolding ruleValid
   rule-iff rule = and-iff _ _ (leb-iff _ _) (lines-iff (rule .condition) (rule .effect))
 
-blank-iff : (rule : Rule) → (ruleBlank rule ≡ true) ↔ (rule ≡ blankRule)
+pub blank-iff : (rule : Rule) → (ruleBlank rule ≡ true) ↔ (rule ≡ blankRule)
 unfolding ruleBlank
 blank-iff rule =
     let tests = and-iff _ _ (eqb-iff (rule .cost) 0) (and-iff _ _ (same-iff (rule .condition) (replicate 16 0)) (same-iff (rule .effect) (replicate 16 0))) in

@@ -1,7 +1,7 @@
 // States, rules and rule sets.
 ghost use mathlib.Core.Path.{_≡_};
 ghost use Prim.Native.Nat.{_<_, _≤_};
-ghost use lib.Dec.{eqb};
+ghost use lib.ListN.{getD};
 ghost use Rattle.theory.specs.Lists.{within, same};
 ghost use Rattle.model.specs.States.{valueOf, applicable, successor, width};
 ghost use Rattle.model.specs.Validity.{entryLimited, conditionPlaced, effectPlaced, conditionValid, effectValid, sizeValid, sizesValid};
@@ -92,28 +92,29 @@ fn in_range(least: u8, most: u8, number: u8) -> bool
     number <= most
 }
 
+// What a list holds at a place, and 0 beyond its sixteen places.
+fn entry_at(list: &[u8; 16], i: usize) -> u8
+    ensures { λ r. ⌜ r ≡ getD (now (list .entry)) i 0 ⌝ }
+{
+    let entries: &[u8] = list;
+    if i < 16 {
+        return entries[i];
+    }
+    0
+}
+
 // How many values a place has: its size, and 1 beyond the positions.
 fn width_at(positions: u8, sizes: &[u8; 16], i: usize) -> u8
-    requires { ⌜ positions ≤ 16 ⌝ }
     ensures { λ r. ⌜ r ≡ width positions (now (sizes .entry)) i ⌝ }
 {
     if i < positions as usize {
-        return sizes[i];
+        return entry_at(sizes, i);
     }
     1
 }
 
-// Whether two places have equal sizes.
-fn equal_sizes(positions: u8, sizes: &[u8; 16], i: usize, j: usize) -> bool
-    requires { ⌜ positions ≤ 16 ⌝ }
-    ensures { λ r. ⌜ r ≡ eqb (width positions (now (sizes .entry)) i) (width positions (now (sizes .entry)) j) ⌝ }
-{
-    width_at(positions, sizes, i) == width_at(positions, sizes, j)
-}
-
 // Whether an entry at place i is within its limit: a constant below the size there, or the variable of a position.
 fn entry_limited(positions: u8, sizes: &[u8; 16], i: usize, entry: u8) -> bool
-    requires { ⌜ positions ≤ 16 ⌝ }
     ensures { λ r. ⌜ r ≡ entryLimited positions (now (sizes .entry)) i entry ⌝ }
 {
     if entry < 16 {
@@ -122,48 +123,48 @@ fn entry_limited(positions: u8, sizes: &[u8; 16], i: usize, entry: u8) -> bool
     entry - 16 < positions
 }
 
-// Whether a variable at place i of a condition is in place: equal sizes, its own place not later, and itself there.
-fn condition_placed(
+// Whether a variable may stand at place i of an effect: equal sizes, and itself at its own place of the condition. A constant always may.
+pub fn effect_placed(
     positions: u8,
     sizes: &[u8; 16],
     condition: &[u8; 16],
     i: usize,
     entry: u8,
 ) -> bool
-    requires { ⌜ (positions ≤ 16) × (entry < 32) ⌝ }
-    ensures { λ r. ⌜ r ≡ conditionPlaced positions (now (sizes .entry)) (now (condition .entry)) i entry ⌝ }
-{
-    if entry < 16 {
-        return true;
-    }
-    let place = (entry - 16) as usize;
-    if !equal_sizes(positions, sizes, place, i) {
-        return false;
-    }
-    if i < place {
-        return false;
-    }
-    condition[place] == entry
-}
-
-// Whether a variable at place i of an effect is in place: equal sizes, and itself at its own place of the condition.
-fn effect_placed(positions: u8, sizes: &[u8; 16], condition: &[u8; 16], i: usize, entry: u8) -> bool
-    requires { ⌜ (positions ≤ 16) × (entry < 32) ⌝ }
     ensures { λ r. ⌜ r ≡ effectPlaced positions (now (sizes .entry)) (now (condition .entry)) i entry ⌝ }
 {
     if entry < 16 {
         return true;
     }
     let place = (entry - 16) as usize;
-    if !equal_sizes(positions, sizes, place, i) {
+    if width_at(positions, sizes, place) != width_at(positions, sizes, i) {
         return false;
     }
-    condition[place] == entry
+    entry_at(condition, place) == entry
+}
+
+// Whether a variable may stand at place i of a condition: as in an effect, and its own place not later. A constant always may.
+pub fn condition_placed(
+    positions: u8,
+    sizes: &[u8; 16],
+    condition: &[u8; 16],
+    i: usize,
+    entry: u8,
+) -> bool
+    ensures { λ r. ⌜ r ≡ conditionPlaced positions (now (sizes .entry)) (now (condition .entry)) i entry ⌝ }
+{
+    if entry < 16 {
+        return true;
+    }
+    let place = (entry - 16) as usize;
+    if i < place {
+        return false;
+    }
+    effect_placed(positions, sizes, condition, i, entry)
 }
 
 // Whether every entry of a condition is valid.
 fn condition_valid(positions: u8, sizes: &[u8; 16], condition: &[u8; 16]) -> bool
-    requires { ⌜ positions ≤ 16 ⌝ }
     ensures { λ r. ⌜ r ≡ conditionValid positions (now (sizes .entry)) (now (condition .entry)) ⌝ }
 {
     let entries: &[u8] = condition;
@@ -183,7 +184,6 @@ fn condition_valid(positions: u8, sizes: &[u8; 16], condition: &[u8; 16]) -> boo
 
 // Whether every entry of an effect is valid, after this condition.
 fn effect_valid(positions: u8, sizes: &[u8; 16], condition: &[u8; 16], effect: &[u8; 16]) -> bool
-    requires { ⌜ positions ≤ 16 ⌝ }
     ensures { λ r. ⌜ r ≡ effectValid positions (now (sizes .entry)) (now (condition .entry)) (now (effect .entry)) ⌝ }
 {
     let entries: &[u8] = effect;
@@ -230,7 +230,6 @@ fn sizes_valid(positions: u8, sizes: &[u8; 16]) -> bool
 
 // Whether both lines of a rule are valid. Every cost is: a byte is at most 255.
 fn rule_valid(positions: u8, sizes: &[u8; 16], rule: Rule) -> bool
-    requires { ⌜ positions ≤ 16 ⌝ }
     ensures { λ r. ⌜ r ≡ ruleValid positions (now (sizes .entry)) rule ⌝ }
 {
     let condition = rule.condition;
@@ -259,7 +258,7 @@ fn rule_blank(rule: Rule) -> bool
 
 // Whether the rule at place k is valid, where it is used, or zero throughout.
 fn rule_valid_at(set: RuleSet, k: usize) -> bool
-    requires { ⌜ (set .positions ≤ 16) × (k < 31) ⌝ }
+    requires { ⌜ k < 31 ⌝ }
     ensures { λ r. ⌜ r ≡ ruleValidAt set k ⌝ }
 {
     let rule = set.rules[k];
@@ -272,7 +271,6 @@ fn rule_valid_at(set: RuleSet, k: usize) -> bool
 
 // Whether every rule is valid at its place.
 fn rules_valid(set: RuleSet) -> bool
-    requires { ⌜ set .positions ≤ 16 ⌝ }
     ensures { λ r. ⌜ r ≡ rulesValid set ⌝ }
 {
     let mut k: usize = 0;

@@ -1,9 +1,9 @@
 -- `model::condition_placed` meets its contract: each return by the tests on the way to it.
 -- Assumes nothing.
+use mathlib.Core.Bool.{and-false}
 use borrow.Author.Tests.{lt-ltb, le-ltb, lt-leb, le-leb}
 use borrow.Author.Needs.{needs}
-use Rattle.model.specs.Validity.{conditionPlaced}
-use Rattle.model.proofs.LoopLaws.{failed, passed}
+use Rattle.model.specs.Validity.{conditionPlaced, effectPlaced}
 use Rattle.model.proofs.condition_placed.Statement.{statement}
 use Rattle.model.proofs.condition_placed.Tie as tie
 
@@ -14,32 +14,17 @@ returns c = rw (lt-ltb _ _ (c .if1 .taken))
 cast-place : tie.Need-cast-place
 cast-place c = search needs
 
-equal-sizes-requires : tie.Need-equal-sizes-requires
-equal-sizes-requires c κs = search needs
-
 returns-2 : tie.Need-returns-2
 unfolding conditionPlaced
-returns-2 c = rw (le-ltb _ _ (c .before .before .if1 .left), failed (c .before .equal-sizes .ensures) (c .if2 .taken))
+returns-2 c = rw (le-ltb _ _ (c .before .if1 .left), lt-leb _ _ (c .if2 .taken), and-false)
+
+effect-placed-requires : tie.Need-effect-placed-requires
+effect-placed-requires c κs = search needs
 
 returns-3 : tie.Need-returns-3
-unfolding conditionPlaced
-returns-3 c = rw (le-ltb _ _ (c .before .before .before .if1 .left), passed (c .before .before .equal-sizes .ensures) (c .before .if2 .left), lt-leb _ _ (c .if3 .taken))
-
-element-copy-out-result : tie.Need-element-copy-out-result
-element-copy-out-result c = search needs
-
-returns-4 : tie.Need-returns-4
-unfolding conditionPlaced
-returns-4 c = rw (le-ltb _ _ (c .before .before .before .before .if1 .left), passed (c .before .before .before .equal-sizes .ensures) (c .before .before .if2 .left), le-leb _ _ (c .before .if3 .left))
+unfolding conditionPlaced effectPlaced
+returns-3 c = rw (le-leb _ _ (c .before .if2 .left)) (c .effect-placed .ensures)
 
 pub condition-placed-spec : {M : Type 1} → statement M
 condition-placed-spec =
-    tie.close
-    (tie.spec
-    returns
-    cast-place
-    equal-sizes-requires
-    returns-2
-    returns-3
-    element-copy-out-result
-    returns-4)
+    tie.close (tie.spec returns cast-place returns-2 effect-placed-requires returns-3)

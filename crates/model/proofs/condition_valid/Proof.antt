@@ -11,7 +11,6 @@ use Rattle.theory.specs.Lists.{every, numbersFrom}
 use Rattle.theory.proofs.ListLaws.{and-join}
 use Rattle.model.specs.Validity.{entryLimited, conditionPlaced, conditionValid}
 use Rattle.model.proofs.LoopLaws.{failed, passed, every-go, every-stop, every-end, sized, first-fails, second-fails}
-use Rattle.model.proofs.CheckLaws.{limited-32}
 use Rattle.model.proofs.condition_valid.Statement.{statement}
 use Rattle.model.proofs.condition_valid.Tie as tie
 
@@ -42,7 +41,7 @@ returns c =
     (first-fails _ (failed (c .before .entry-limited .ensures) (c .if1 .taken)))
 
 condition-placed-requires : tie.Need-condition-placed-requires Inv-loop μ-loop
-condition-placed-requires c κs = (c .before .before .before .before .before .before .pre, limited-32 _ _ _ _ (c .before .before .before .before .before .before .pre) (passed (c .before .entry-limited .ensures) (c .if1 .left)))
+condition-placed-requires c κs = search needs
 
 returns-2 : tie.Need-returns-2 Inv-loop μ-loop
 returns-2 c =

@@ -1,9 +1,8 @@
 -- `model::effect_placed` meets its contract: each return by the tests on the way to it.
 -- Assumes nothing.
-use borrow.Author.Tests.{lt-ltb, le-ltb}
+use borrow.Author.Tests.{lt-ltb, le-ltb, eq-eqb, ne-eqb}
 use borrow.Author.Needs.{needs}
 use Rattle.model.specs.Validity.{effectPlaced}
-use Rattle.model.proofs.LoopLaws.{failed, passed}
 use Rattle.model.proofs.effect_placed.Statement.{statement}
 use Rattle.model.proofs.effect_placed.Tie as tie
 
@@ -14,21 +13,31 @@ returns c = rw (lt-ltb _ _ (c .if1 .taken))
 cast-place : tie.Need-cast-place
 cast-place c = search needs
 
-equal-sizes-requires : tie.Need-equal-sizes-requires
-equal-sizes-requires c κs = search needs
+width-at-requires : tie.Need-width-at-requires
+width-at-requires c κs = search needs
+
+width-at-requires-2 : tie.Need-width-at-requires-2
+width-at-requires-2 c κs = search needs
 
 returns-2 : tie.Need-returns-2
 unfolding effectPlaced
-returns-2 c = rw (le-ltb _ _ (c .before .before .if1 .left), failed (c .before .equal-sizes .ensures) (c .if2 .taken))
+returns-2 c = rw (le-ltb _ _ (c .before .before .before .if1 .left), ← c .before .before .width-at .ensures, ← c .before .width-at2 .ensures, ne-eqb _ _ (c .if2 .taken))
 
-element-copy-out-result : tie.Need-element-copy-out-result
-element-copy-out-result c = search needs
+entry-at-requires : tie.Need-entry-at-requires
+entry-at-requires c κs = search needs
 
 returns-3 : tie.Need-returns-3
 unfolding effectPlaced
-returns-3 c = rw (le-ltb _ _ (c .before .before .before .if1 .left), passed (c .before .before .equal-sizes .ensures) (c .before .if2 .left))
+returns-3 c = rw (le-ltb _ _ (c .before .before .before .before .if1 .left), ← c .before .before .before .width-at .ensures, ← c .before .before .width-at2 .ensures, eq-eqb _ _ (c .before .if2 .left), c .entry-at .ensures)
 
 pub effect-placed-spec : {M : Type 1} → statement M
 effect-placed-spec =
     tie.close
-    (tie.spec returns cast-place equal-sizes-requires returns-2 element-copy-out-result returns-3)
+    (tie.spec
+    returns
+    cast-place
+    width-at-requires
+    width-at-requires-2
+    returns-2
+    entry-at-requires
+    returns-3)

@@ -3,7 +3,6 @@
 use borrow.Author.Needs.{needs}
 use Rattle.model.specs.Validity.{wellFormed}
 use Rattle.model.proofs.LoopLaws.{failed, passed}
-use Rattle.model.proofs.CheckLaws.{within-most}
 use Rattle.model.proofs.well_formed.Statement.{statement}
 use Rattle.model.proofs.well_formed.Tie as tie
 
@@ -29,7 +28,7 @@ unfolding wellFormed
 returns-3 c = rw (passed (c .before .before .before .before .before .before .before .in-range .ensures) (c .before .before .before .before .before .before .if1 .left), passed (c .before .before .before .sizes-valid .ensures) (c .before .before .if2 .left), failed (c .before .in-range2 .ensures) (c .if3 .taken))
 
 rules-valid-requires : tie.Need-rules-valid-requires
-rules-valid-requires c κs = within-most 1 16 _ (passed (c .before .before .before .before .before .before .before .in-range .ensures) (c .before .before .before .before .before .before .if1 .left))
+rules-valid-requires c κs = search needs
 
 returns-4 : tie.Need-returns-4
 unfolding wellFormed

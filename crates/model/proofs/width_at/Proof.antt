@@ -6,16 +6,16 @@ use Rattle.model.specs.States.{width}
 use Rattle.model.proofs.width_at.Statement.{statement}
 use Rattle.model.proofs.width_at.Tie as tie
 
-element-copy-out-result : tie.Need-element-copy-out-result
-element-copy-out-result c = search needs
+entry-at-requires : tie.Need-entry-at-requires
+entry-at-requires c κs = search needs
 
 returns : tie.Need-returns
 unfolding width
-returns c = rw (lt-ltb _ _ (c .before .if1 .taken))
+returns c = rw (lt-ltb _ _ (c .before .if1 .taken)) (c .entry-at .ensures)
 
 returns-2 : tie.Need-returns-2
 unfolding width
 returns-2 c = rw (le-ltb _ _ (c .if1 .left))
 
 pub width-at-spec : {M : Type 1} → statement M
-width-at-spec = tie.close (tie.spec element-copy-out-result returns returns-2)
+width-at-spec = tie.close (tie.spec entry-at-requires returns returns-2)
