@@ -8,7 +8,7 @@ use Rattle.model.specs.States.{width}
 use Rattle.model.specs.Validity.{conditionPlaced, effectPlaced, duplicate, repeated, hasDuplicates}
 use Rattle.rules.specs.Text.{bytes, numeral, line}
 use Rattle.rules.specs.File.{entryText, ruleText, render}
-use Rattle.rules.specs.Reading.{literal, digits, isNumber, decimal, number, numberWithin, variable, constant, entry, sizeItem, conditionItem, effectItem, itemsAfter, numberLine, listLine, ruleLines, rulesAfter, fileLines, finished, reading}
+use Rattle.rules.specs.Reading.{literal, digits, isNumber, decimal, number, numberWithin, variable, constant, entry, sizeItem, conditionItem, effectItem, itemsAfter, numberLine, listLine, ruleLines, rulesAfter, ruleList, fileLines, finished, reading}
 
 -- a text, and the outcome of reading it
 pub record Row : Type 0 where
@@ -92,7 +92,7 @@ rows =
     ∷ []
 
 pub files-read : map (λ (row : Row). reading (row .text) .outcome) rows ≡ map (λ (row : Row). row .outcome) rows
-unfolding width conditionPlaced effectPlaced duplicate repeated hasDuplicates numeral line literal digits isNumber decimal number numberWithin variable constant entry sizeItem conditionItem effectItem itemsAfter numberLine listLine ruleLines rulesAfter fileLines finished reading
+unfolding width conditionPlaced effectPlaced duplicate repeated hasDuplicates numeral line literal digits isNumber decimal number numberWithin variable constant entry sizeItem conditionItem effectItem itemsAfter numberLine listLine ruleLines rulesAfter ruleList fileLines finished reading
 files-read = refl
 
 -- a file read and written again
@@ -100,5 +100,5 @@ abbrev rewritten : List ℕ → List ℕ
 rewritten text = render (reading text .set)
 
 pub files-rewritten : map rewritten (many 31 ∷ lines "x1,x1" "2,x1" ∷ file "1" "16" "255" "x1" "15" ∷ []) ≡ many 31 ∷ lines "x1,x1" "2,x1" ∷ file "1" "16" "255" "x1" "15" ∷ []
-unfolding width conditionPlaced effectPlaced duplicate repeated hasDuplicates numeral line entryText ruleText render literal digits isNumber decimal number numberWithin variable constant entry sizeItem conditionItem effectItem itemsAfter numberLine listLine ruleLines rulesAfter fileLines finished reading
+unfolding width conditionPlaced effectPlaced duplicate repeated hasDuplicates numeral line entryText ruleText render literal digits isNumber decimal number numberWithin variable constant entry sizeItem conditionItem effectItem itemsAfter numberLine listLine ruleLines rulesAfter ruleList fileLines finished reading
 files-rewritten = refl

@@ -11,7 +11,7 @@ use Rattle.model.specs.Rules.{ruleAt, stepOf, ruleCost, statesOf, runIn, sequen
 use Rattle.model.specs.Validity.{entryLimited, conditionPlaced, effectPlaced, conditionValid, effectValid, sizeValid, sizesValid, ruleValid, ruleBlank, ruleValidAt, rulesValid, duplicate, repeated, hasDuplicates, wellFormed, valid}
 use Rattle.model.specs.declared.RuleSet.{RuleSet}
 use Rattle.rules.specs.Text.{bytes}
-use Rattle.rules.specs.Reading.{literal, digits, isNumber, decimal, number, numberWithin, variable, constant, entry, sizeItem, conditionItem, effectItem, itemsAfter, numberLine, listLine, ruleLines, rulesAfter, fileLines, finished, reading}
+use Rattle.rules.specs.Reading.{literal, digits, isNumber, decimal, number, numberWithin, variable, constant, entry, sizeItem, conditionItem, effectItem, itemsAfter, numberLine, listLine, ruleLines, rulesAfter, ruleList, fileLines, finished, reading}
 use Rattle.macros.specs.Composition.{Lines, ownVariables, emptyLines, replaced, clash, equated, unified, followed, extended, composedFrom, composed}
 use Rattle.macros.specs.Answers.{macroCauses, macroAnswer}
 use Rattle.macros.specs.declared.MacroAnswer.{MacroAnswer}
@@ -151,5 +151,5 @@ rows =
     ∷ []
 
 pub worked-cases : map (λ (row : Row). reply (row .asked)) rows ≡ map (λ (row : Row). row .expected) rows
-unfolding valueOf valuesOf applicable successor width states ruleAt stepOf ruleCost statesOf runIn sequenceCost admitted redundant entryLimited conditionPlaced effectPlaced conditionValid effectValid sizeValid sizesValid ruleValid ruleBlank ruleValidAt rulesValid duplicate repeated hasDuplicates wellFormed valid literal digits isNumber decimal number numberWithin variable constant entry sizeItem conditionItem effectItem itemsAfter numberLine listLine ruleLines rulesAfter fileLines finished reading ownVariables emptyLines replaced clash equated unified followed extended composedFrom composed macroCauses macroAnswer tableEntries sequenceAt entryAt marked builtEntry builtTable entryJustified accepted tableCauses buildOutcome builtBuffer checkCauses checkOutcome startFits goalFits meetsGoal visitedBy plansFor queryCauses cheapestPlan searchCauses shownPlan searchedWith searched
+unfolding valueOf valuesOf applicable successor width states ruleAt stepOf ruleCost statesOf runIn sequenceCost admitted redundant entryLimited conditionPlaced effectPlaced conditionValid effectValid sizeValid sizesValid ruleValid ruleBlank ruleValidAt rulesValid duplicate repeated hasDuplicates wellFormed valid literal digits isNumber decimal number numberWithin variable constant entry sizeItem conditionItem effectItem itemsAfter numberLine listLine ruleLines rulesAfter ruleList fileLines finished reading ownVariables emptyLines replaced clash equated unified followed extended composedFrom composed macroCauses macroAnswer tableEntries sequenceAt entryAt marked builtEntry builtTable entryJustified accepted tableCauses buildOutcome builtBuffer checkCauses checkOutcome startFits goalFits meetsGoal visitedBy plansFor queryCauses cheapestPlan searchCauses shownPlan searchedWith searched
 worked-cases = refl

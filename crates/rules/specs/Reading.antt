@@ -116,33 +116,38 @@ itemsAfter item (suc n) before text = andRead (item before (endingOf n) text) (�
 unfoldable pub numberLine : String → ℕ → ℕ → List ℕ → Parsed ℕ
 numberLine key lo hi text = andRead (literal (bytes key) text) (λ _ rest. numberWithin lo hi lineFeed rest)
 
--- a line with a key and a list of n items
+-- a line with a key and a list of n items; the places beyond them are 0
 unfoldable pub listLine : String → Item → ℕ → List ℕ → Parsed (List ℕ)
-listLine key item n text = andRead (literal (bytes key) text) (λ _ rest. itemsAfter item n [] rest)
+listLine key item n text =
+    andRead (literal (bytes key) text) (λ _ rest. andRead (itemsAfter item n [] rest) (λ items rest. parsed (padded 16 0 items) rest))
 
--- the lines of a rule; the places beyond the positions are 0
+-- the lines of a rule
 unfoldable pub ruleLines : ℕ → List ℕ → List ℕ → Parsed Rule
 ruleLines positions sizes text =
     andRead (numberLine "cost=" 0 255 text) (λ cost rest.
     andRead (listLine "if=" (conditionItem positions sizes) positions rest) (λ condition rest.
     andRead (listLine "then=" (effectItem positions sizes condition) positions rest) (λ effect rest.
-    parsed (record { cost = cost; condition = padded 16 0 condition; effect = padded 16 0 effect }) rest)))
+    parsed (record { cost = cost; condition = condition; effect = effect }) rest)))
 
 -- the lines of n more rules, after those before
 unfoldable pub rulesAfter : ℕ → List ℕ → ℕ → List Rule → List ℕ → Parsed (List Rule)
 rulesAfter positions sizes zero before text = parsed before text
 rulesAfter positions sizes (suc n) before text = andRead (ruleLines positions sizes text) (λ rule rest. rulesAfter positions sizes n (before ++ (rule ∷ [])) rest)
 
+-- the lines of n rules; the rules beyond them are zero throughout
+unfoldable pub ruleList : ℕ → List ℕ → ℕ → List ℕ → Parsed (List Rule)
+ruleList positions sizes n text = andRead (rulesAfter positions sizes n [] text) (λ rules rest. parsed (padded 31 blankRule rules) rest)
+
 -- ── The file ─────────────────────────────────────────────────────────────────────────────────────
 
--- the lines of the file; unused places are zero
+-- the lines of the file
 unfoldable pub fileLines : List ℕ → Parsed RuleSet
 fileLines text =
     andRead (numberLine "positions=" 1 16 text) (λ positions rest.
     andRead (listLine "sizes=" sizeItem positions rest) (λ sizes rest.
     andRead (numberLine "rules=" 1 31 rest) (λ count rest.
-    andRead (rulesAfter positions sizes count [] rest) (λ rules rest.
-    parsed (record { positions = positions; sizes = padded 16 0 sizes; count = count; rules = padded 31 blankRule rules }) rest))))
+    andRead (ruleList positions sizes count rest) (λ rules rest.
+    parsed (record { positions = positions; sizes = sizes; count = count; rules = rules }) rest))))
 
 -- bytes left over: 1; then duplicates: 4
 unfoldable pub finished : Parsed RuleSet → Reading
@@ -160,7 +165,7 @@ reading text = finished (fileLines text)
 abbrev pub ReadAs : List ℕ → RuleSet → Type 0
 ReadAs text set = reading text ≡ record { outcome = 0; set = set }
 
--- some accepted file gives the set (document 01: the set is sound); that this is `Valid` is to be proved with the reader
+-- some accepted file gives the set (document 01: the set is sound). These are the valid sets: `readable-iff`
 abbrev pub Readable : RuleSet → Type 0
 Readable set = (text : List ℕ) × ReadAs text set
 
