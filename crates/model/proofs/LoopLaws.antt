@@ -10,7 +10,7 @@ use native.Mathlib.Numerals.{add-one}
 use native.Mathlib.Omega.{arith}
 use lib.ListN.{length, getD, set, drop, drop-of-length-le}
 use lib.Dec.{eqb}
-use lib.Seq.{drop-cons}
+use lib.Seq.{drop-cons, set-getD}
 use borrow.Author.Tests.{eq-eqb, ne-eqb, not-true, not-false}
 use Rattle.theory.specs.Lists.{any, every, numbersFrom, same}
 
@@ -98,6 +98,17 @@ front-suc f (suc i) (x ∷ l) = ap (λ (r : List ℕ). f x ∷ r) (front-suc f i
 -- a store at i
 pub front-more : (f : ℕ → ℕ) (i : ℕ) (l r : List ℕ) (v : ℕ) → r ≡ front f i l → v ≡ f (getD l i 0) → set r i v ≡ front f (i + 1) l
 front-more f i l r v h e = rw (e, h, add-one i) (front-suc f i l)
+
+-- what is not yet mapped is as it was
+pub front-at : (f : ℕ → ℕ) (i : ℕ) (l r : List ℕ) → r ≡ front f i l → getD r i 0 ≡ getD l i 0
+unfolding front
+front-at f zero l r h = rw h
+front-at f (suc i) [] r h = rw h
+front-at f (suc i) (x ∷ l) r h = rw h (front-at f i l (front f i l) refl)
+
+-- no store at i, where f leaves what is there
+pub front-same : (f : ℕ → ℕ) (i : ℕ) (l r : List ℕ) → r ≡ front f i l → f (getD r i 0) ≡ getD r i 0 → r ≡ front f (i + 1) l
+front-same f i l r h e = sym (set-getD r i 0) ∙ front-more f i l r (getD r i 0) h (sym e ∙ ap f (front-at f i l r h))
 
 pub front-all : (f : ℕ → ℕ) (i : ℕ) (l : List ℕ) → length l ≤ i → front f i l ≡ map f l
 unfolding front

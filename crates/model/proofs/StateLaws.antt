@@ -44,11 +44,14 @@ in-choices (n ∷ ns) (v ∷ s) b =
     in-flat (λ v. map (λ (s : State). v ∷ s) (choices ns)) (in-numbersFrom 0 n v (omega arith) (omega (arith, b .1 0 (omega arith))))
     (Memᴰ·map (λ (s : State). v ∷ s) (in-choices ns s (omega arith, λ i h. b .1 (suc i) (omega arith))))
 
--- what stands at a place of a list of numbers made from the places
 at-numbers : (f : ℕ → ℕ) (k n i : ℕ) → i < n → getD (map f (numbersFrom k n)) i 0 ≡ f (k + i)
 at-numbers f k zero i h = absurd (omega arith)
 at-numbers f k (suc n) zero h = ap f (omega arith)
 at-numbers f k (suc n) (suc i) h = at-numbers f (suc k) n i (omega arith) ∙ ap f (omega arith)
+
+-- what stands at a place of a list made from the places
+pub at-places : (f : ℕ → ℕ) (i : ℕ) → i < 16 → getD (map f places) i 0 ≡ f i
+at-places f i h = at-numbers f 0 16 i h ∙ ap f (omega arith)
 
 pub states-iff : (positions : ℕ) (sizes : List ℕ) (s : State) → (s ∈ states positions sizes) ↔ IsState positions sizes s
 unfolding states
@@ -58,7 +61,7 @@ states-iff positions sizes s = (λ d. let b = of-choices ws s d in (b .0, λ i h
     ws = map (width positions sizes) places
 
     at : (i : ℕ) → i < 16 → getD ws i 0 ≡ width positions sizes i
-    at i h = at-numbers (width positions sizes) 0 16 i h ∙ ap (width positions sizes) (omega arith)
+    at = at-places (width positions sizes)
 
 -- ── Widths ───────────────────────────────────────────────────────────────────────────────────────
 
