@@ -1,74 +1,84 @@
--- What a refused macro is, and that a macro costs at most 8,160.
+-- The macro call's five answers: which one each cause in turn has, and what is known where it is given.
 -- Assumes nothing.
-use mathlib.Core.Path.{_≡_, refl}
-use mathlib.Core.Logic.{_≢_}
-use mathlib.Core.Bool.{Bool, true, false, not, cond, true≢false, _||_}
+use mathlib.Core.Path.{_≡_, refl, ap, _∙_}
+use mathlib.Core.Bool.{Bool, true, false, not}
 use mathlib.Core.Option.{Option, some, none}
-use mathlib.Core.List.{List, [], _∷_}
-use Prim.Native.Nat.{ℕ, _≤_}
-use native.Mathlib.Omega.{arith}
-use lib.Dec.{eqb}
+use Prim.Native.Nat.{_≤_, _<_}
+use lib.Dec.{ltb}
 use lib.ListN.{length}
-use borrow.Author.Tests.{not-false, eqb-true, ltb-false}
-use Rattle.theory.specs.Lists.{any, within}
-use Rattle.theory.specs.Sequences.{Numbered}
-use Rattle.theory.proofs.TestLaws.{within-iff}
-use Rattle.model.specs.Refusals.{firstRefusal, NonZero}
-use Rattle.model.specs.Rules.{sequenceCost}
-use Rattle.model.specs.Validity.{valid}
+use borrow.Author.Tests.{ltb-true, ltb-false, lt-ltb, le-ltb}
+use Rattle.theory.specs.Lists.{any, within, isSome}
+use Rattle.theory.specs.Sequences.{Sequence, Numbered}
+use Rattle.theory.proofs.ListLaws.{not-both}
+use Rattle.model.specs.Rules.{sequenceCost, admitted}
+use Rattle.model.specs.Validity.{valid, Valid}
 use Rattle.model.specs.declared.RuleSet.{RuleSet}
-use Rattle.model.proofs.RefusalLaws.{no-refusal-iff}
-use Rattle.model.proofs.ValidityLaws.{valid-iff, valid-cost}
+use Rattle.model.proofs.ValidityLaws.{valid-iff}
 use Rattle.macros.specs.Composition.{Lines, composed}
-use Rattle.macros.specs.Answers.{macroCauses, blankMacro, macroAt, macroAnswer}
-use Rattle.macros.specs.declared.Macro.{Macro}
+use Rattle.macros.specs.Answers.{macroCauses, blankMacro, macroAt, macroAnswer, Judged}
+use Rattle.macros.specs.declared.MacroAnswer.{MacroAnswer}
+use Rattle.macros.proofs.MoveLaws.{no-unknown-iff}
+use Rattle.macros.proofs.MeaningLaws.{admitted-composed}
 
-neither : (a b : Bool) → (a || b) ≡ false → (a ≡ false) × (b ≡ false)
-neither true b e = absurd (true≢false e)
-neither false b e = (refl, e)
+module _ (set : RuleSet) (moves : Sequence) where
+  -- ── The answer to each cause ───────────────────────────────────────────────────────────────────
 
--- moves of which none is out of range are rules' numbers
-moves-numbered : (n : ℕ) (moves : List ℕ) → any (λ r. not (within 1 n r)) moves ≡ false → Numbered n moves
-moves-numbered n [] e = tt
-moves-numbered n (r ∷ q) e =
-    let w = neither (not (within 1 n r)) (any (λ r. not (within 1 n r)) q) e in
-    let k = within-iff 1 n r .0 (not-false (within 1 n r) (w .0)) in
-    (k .0, k .1, moves-numbered n q (w .1))
+  pub answer-invalid : valid set ≡ false → macroAnswer set moves ≡ record { outcome = 7; result = blankMacro }
+  unfolding macroAnswer macroCauses
+  answer-invalid e = rw e
 
-module _ (set : RuleSet) (moves : List ℕ) where
-  abbrev outcome : ℕ
-  outcome = firstRefusal (macroCauses set moves)
+  module _ (isValid : valid set ≡ true) where
+    pub answer-long : 32 < length moves → macroAnswer set moves ≡ record { outcome = 11; result = blankMacro }
+    unfolding macroAnswer macroCauses
+    answer-long h = rw (isValid, lt-ltb 32 (length moves) h)
 
-  -- a refused macro is all zeros
-  pub macro-refused : macroAnswer set moves .outcome ≢ 0 → macroAnswer set moves .result ≡ blankMacro
-  unfolding macroAnswer
-  macro-refused h = go (eqb outcome 0) refl
+    module _ (few : length moves ≤ 32) where
+      pub answer-unknown : any (λ r. not (within 1 (set .count) r)) moves ≡ true → macroAnswer set moves ≡ record { outcome = 13; result = blankMacro }
+      unfolding macroAnswer macroCauses
+      answer-unknown e = rw (isValid, le-ltb 32 (length moves) few, e)
+
+      module _ (numbered : any (λ r. not (within 1 (set .count) r)) moves ≡ false) where
+        judged : Judged set moves
+        judged = (valid-iff set .0 isValid, (few, no-unknown-iff (set .count) moves .0 numbered))
+
+        admits : (o : Option Lines) → composed set moves ≡ o → admitted set moves ≡ isSome o
+        admits o e = admitted-composed set (judged .0) moves (judged .1 .1) ∙ ap isSome e
+
+        pub answer-denied : composed set moves ≡ none → macroAnswer set moves ≡ record { outcome = 17; result = blankMacro }
+        unfolding macroAnswer macroCauses
+        answer-denied e = rw (isValid, le-ltb 32 (length moves) few, numbered, admits none e)
+
+        pub answer-given : (m : Lines) → composed set moves ≡ some m → macroAnswer set moves ≡ record { outcome = 0; result = macroAt (sequenceCost set moves) (some m) }
+        unfolding macroAnswer macroCauses
+        answer-given m e = rw (isValid, le-ltb 32 (length moves) few, numbered, admits (some m) e, e)
+
+  -- ── The five answers ───────────────────────────────────────────────────────────────────────────
+
+  -- an answer, and what it is the answer to
+  pub data Answered : MacroAnswer → Type 0 where
+    invalid : (Valid set → ⊥) → Answered (record { outcome = 7; result = blankMacro })
+    long : Valid set → 32 < length moves → Answered (record { outcome = 11; result = blankMacro })
+    unknown : Valid set → length moves ≤ 32 → (Numbered (set .count) moves → ⊥) → Answered (record { outcome = 13; result = blankMacro })
+    denied : Judged set moves → composed set moves ≡ none → Answered (record { outcome = 17; result = blankMacro })
+    given : Judged set moves → (m : Lines) → composed set moves ≡ some m → Answered (record { outcome = 0; result = macroAt (sequenceCost set moves) (some m) })
+
+  -- the macro call's answer is one of them
+  pub answered : Answered (macroAnswer set moves)
+  answered = by-validity (valid set) refl
     where
-      go : (b : Bool) → eqb outcome 0 ≡ b → cond b (macroAt (sequenceCost set moves) (composed set moves)) blankMacro ≡ blankMacro
-      go true e = absurd (h (eqb-true outcome 0 e))
-      go false e = refl
+      by-macro : (isValid : valid set ≡ true) (few : length moves ≤ 32) (numbered : any (λ r. not (within 1 (set .count) r)) moves ≡ false) (o : Option Lines) → composed set moves ≡ o
+          → Answered (macroAnswer set moves)
+      by-macro isValid few numbered none e = rw (answer-denied isValid few numbered e) (denied (judged isValid few numbered) e)
+      by-macro isValid few numbered (some m) e = rw (answer-given isValid few numbered m e) (given (judged isValid few numbered) m e)
 
-  macro-numbers : NonZero (macroCauses set moves)
-  unfolding macroCauses
-  macro-numbers = (λ e. omega arith, (λ e. omega arith, (λ e. omega arith, (λ e. omega arith, tt))))
+      by-numbers : valid set ≡ true → length moves ≤ 32 → (b : Bool) → any (λ r. not (within 1 (set .count) r)) moves ≡ b → Answered (macroAnswer set moves)
+      by-numbers isValid few true e = rw (answer-unknown isValid few e) (unknown (valid-iff set .0 isValid) few (λ n. not-both e (no-unknown-iff (set .count) moves .1 n)))
+      by-numbers isValid few false e = by-macro isValid few e (composed set moves) refl
 
-  -- a sequence whose macro is not refused costs at most 8,160
-  sequence-bound : outcome ≡ 0 → sequenceCost set moves ≤ 8160
-  unfolding macroCauses
-  sequence-bound e =
-      let h = no-refusal-iff (macroCauses set moves) macro-numbers .0 e in
-      let few = ltb-false 32 (length moves) (h .1 .0) in
-      let costs = valid-cost set (valid-iff set .0 (not-false (valid set) (h .0))) moves (moves-numbered (set .count) moves (h .1 .1 .0)) in
-      omega arith
+      by-length : valid set ≡ true → (b : Bool) → ltb 32 (length moves) ≡ b → Answered (macroAnswer set moves)
+      by-length isValid true e = let many = ltb-true 32 (length moves) e in rw (answer-long isValid many) (long (valid-iff set .0 isValid) many)
+      by-length isValid false e = by-numbers isValid (ltb-false 32 (length moves) e) (any (λ r. not (within 1 (set .count) r)) moves) refl
 
-  pub cost-bound : macroAnswer set moves .result .cost ≤ 8160
-  unfolding macroAnswer
-  cost-bound = go (eqb outcome 0) refl
-    where
-      at : (n : ℕ) (m : Option Lines) → n ≤ 8160 → macroAt n m .cost ≤ 8160
-      at n none h = omega arith
-      at n (some m) h = h
-
-      go : (b : Bool) → eqb outcome 0 ≡ b → cond {A = Macro} b (macroAt (sequenceCost set moves) (composed set moves)) blankMacro .cost ≤ 8160
-      go true e = at (sequenceCost set moves) (composed set moves) (sequence-bound (eqb-true outcome 0 e))
-      go false e = omega arith
+      by-validity : (b : Bool) → valid set ≡ b → Answered (macroAnswer set moves)
+      by-validity true e = by-length e (ltb 32 (length moves)) refl
+      by-validity false e = rw (answer-invalid e) (invalid (λ v. not-both (valid-iff set .1 v) e))

@@ -1,18 +1,18 @@
 -- What the macro call answers.
 use mathlib.Core.Path.{_≡_}
-use mathlib.Core.Logic.{_↔_}
+use mathlib.Core.Logic.{_↔_, _≢_}
 use mathlib.Core.Bool.{true, not, cond}
 use mathlib.Core.Option.{Option, some, none}
 use mathlib.Core.List.{List, [], _∷_}
-use Prim.Native.Nat.{ℕ}
+use Prim.Native.Nat.{ℕ, _≤_, _<_}
 use lib.Dec.{ltb, eqb}
 use lib.ListN.{length, replicate}
 use Rattle.theory.specs.Lists.{any, within}
-use Rattle.theory.specs.Sequences.{Sequence}
+use Rattle.theory.specs.Sequences.{Sequence, Numbered}
 use Rattle.model.specs.Refusals.{Cause, firstRefusal}
 use Rattle.model.specs.States.{State, applicable, successor}
 use Rattle.model.specs.Rules.{StateOf, runIn, sequenceCost, admitted}
-use Rattle.model.specs.Validity.{valid, LinesValid}
+use Rattle.model.specs.Validity.{valid, LinesValid, Valid}
 use Rattle.model.specs.declared.RuleSet.{RuleSet}
 use Rattle.macros.specs.Composition.{Lines, composed}
 use Rattle.macros.specs.declared.Macro.{Macro}
@@ -50,3 +50,22 @@ pub record Means (set : RuleSet) (q : Sequence) (m : Macro) : Type 0 where
 -- no state admits the sequence
 abbrev pub Denied : RuleSet → Sequence → Type 0
 Denied set q = (s : State) → StateOf set s → runIn set q s ≡ none
+
+-- some state admits the sequence
+abbrev pub Admitted : RuleSet → Sequence → Type 0
+Admitted set q = (s : State) × (t : State) × StateOf set s × (runIn set q s ≡ some t)
+
+-- what is judged before the sequence's states: the set is valid, there are at most 32 moves, and each is a rule's number
+abbrev pub Judged : RuleSet → Sequence → Type 0
+Judged set moves = Valid set × ((length moves ≤ 32) × Numbered (set .count) moves)
+
+-- what an answer tells: each number exactly if its cause holds and none before it does, 0 exactly if none holds; what the macro means; what it costs at most; and what a refusal leaves
+pub record Meaning (set : RuleSet) (moves : Sequence) (answer : MacroAnswer) : Type 0 where
+  pub notValid : (answer .outcome ≡ 7) ↔ (Valid set → ⊥)
+  pub tooLong : (answer .outcome ≡ 11) ↔ (Valid set × (32 < length moves))
+  pub unknownMove : (answer .outcome ≡ 13) ↔ (Valid set × ((length moves ≤ 32) × (Numbered (set .count) moves → ⊥)))
+  pub denied : (answer .outcome ≡ 17) ↔ (Judged set moves × Denied set moves)
+  pub given : (answer .outcome ≡ 0) ↔ (Judged set moves × Admitted set moves)
+  pub means : answer .outcome ≡ 0 → Means set moves (answer .result)
+  pub bounded : answer .result .cost ≤ 8160
+  pub refused : answer .outcome ≢ 0 → answer .result ≡ blankMacro

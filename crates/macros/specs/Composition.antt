@@ -1,16 +1,17 @@
 -- Composition of macros: the condition and the effect of a sequence, as two vectors in the form of a rule's lines.
 -- This is source document 003 with two faults mended: its case 2(b), and its reading of effects as they stood before a replacement (docs/DECISIONS.md).
-use mathlib.Core.Bool.{Bool, not, cond, _&&_}
+use mathlib.Core.Bool.{Bool, true, false, not, cond, _&&_}
 use mathlib.Core.Option.{Option, some, none}
 use mathlib.Core.List.{List, [], _∷_, map}
 use Prim.Native.Nat.{ℕ, suc, _+_, min, max}
 use lib.Dec.{ltb, eqb}
-use lib.ListN.{getD}
+use lib.ListN.{getD, replicate}
 use Rattle.theory.specs.Sequences.{Sequence}
 use Rattle.model.specs.States.{places, isConstant, valueOf, valuesOf}
 use Rattle.model.specs.Rules.{ruleAt}
 use Rattle.model.specs.declared.Rule.{Rule}
 use Rattle.model.specs.declared.RuleSet.{RuleSet}
+use Rattle.macros.specs.declared.Vectors.{Vectors}
 
 -- the two vectors of a macro
 pub record Lines : Type 0 where
@@ -63,3 +64,14 @@ composedFrom set (r ∷ q) m = composedFrom set q (extended (ruleAt set r) m)
 -- the vectors of a sequence; none where two constants clash
 unfoldable pub composed : RuleSet → Sequence → Option Lines
 composed set q = composedFrom set q (some (emptyLines set))
+
+-- ── The vectors as the code keeps them ───────────────────────────────────────────────────────────
+
+-- zeros where there are none
+abbrev pub asVectors : Option Lines → Vectors
+asVectors none = record { admitted = false; condition = replicate 16 0; effect = replicate 16 0 }
+asVectors (some m) = record { admitted = true; condition = m .condition; effect = m .effect }
+
+-- and back; none where the code's mark says that there are none
+abbrev pub linesOf : Vectors → Option Lines
+linesOf v = cond (v .admitted) (some (record { condition = v .condition; effect = v .effect })) none

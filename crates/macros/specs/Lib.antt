@@ -1,2 +1,3 @@
 pub mod Composition
 pub mod Answers
+pub mod Redundancy

@@ -1,0 +1,116 @@
+-- `macros::redundancy::is_redundant` meets its contract: by what was found of the witness and of the sequence at each way out.
+-- Assumes nothing.
+use mathlib.Core.Path.{_≡_, sym, _∙_}
+use mathlib.Core.Bool.{Bool, true, false, not}
+use Prim.Native.Nat.{ℕ}
+use native.Mathlib.Omega.{arith}
+use lib.Dec.{leb}
+use borrow.Author.Tests.{not-true, not-false}
+use borrow.Author.Needs.{needs}
+use Rattle.theory.specs.Lists.{any, every, within}
+use Rattle.theory.specs.Sequences.{Sequence, Numbered}
+use Rattle.model.specs.Rules.{runIn, sequenceCost}
+use Rattle.model.specs.declared.RuleSet.{RuleSet}
+use Rattle.model.proofs.LoopLaws.{failed, passed}
+use Rattle.macros.specs.Composition.{linesOf}
+use Rattle.macros.specs.declared.Vectors.{Vectors}
+use Rattle.macros.specs.Redundancy.{endsIn, covers, lastNumber, redundantByLines}
+use Rattle.macros.proofs.MoveLaws.{no-unknown-iff, numbered-test, numbered-wider}
+use Rattle.macros.proofs.redundancy.is_redundant.Statement.{statement}
+use Rattle.macros.proofs.redundancy.is_redundant.Tie as tie
+
+-- ── Each way out: what was found of the witness and of the sequence tells the answer ─────────────
+
+module _ (set : RuleSet) (sequence : Vectors) (cost : ℕ) (witness : Sequence) (last : ℕ) (l : last ≡ lastNumber set) where
+  abbrev answer : Bool
+  answer = redundantByLines set (linesOf sequence) cost witness
+
+  -- whether each move of the witness is the number of one of the set's rules
+  test : every (within 1 (lastNumber set)) witness ≡ not (any (λ r. not (within 1 last r)) witness)
+  test = rw (← l) (numbered-test last witness)
+
+  -- one is not
+  unnumbered : any (λ r. not (within 1 last r)) witness ≡ true → false ≡ answer
+  unfolding redundantByLines
+  unnumbered e = rw (test, e)
+
+  module _ (numbered : any (λ r. not (within 1 last r)) witness ≡ false) where
+    each-number : Numbered 31 witness
+    each-number = numbered-wider last 31 witness (omega arith) (no-unknown-iff last witness .0 numbered)
+
+    -- the witness costs more
+    dearer : leb (sequenceCost set witness) cost ≡ false → false ≡ answer
+    unfolding redundantByLines
+    dearer d = rw (test, numbered, d)
+
+    -- no state admits the sequence
+    never-run : leb (sequenceCost set witness) cost ≡ true → sequence .admitted ≡ false → true ≡ answer
+    unfolding redundantByLines covers
+    never-run d a = rw (test, numbered, d, a)
+
+    -- else the run on the condition tells
+    compared : leb (sequenceCost set witness) cost ≡ true → sequence .admitted ≡ true
+        → (leads : Bool) → leads ≡ endsIn (runIn set witness (sequence .condition)) (sequence .effect) → leads ≡ answer
+    unfolding redundantByLines covers
+    compared d a leads e = rw (test, numbered, d, a) e
+
+-- ── The proof ────────────────────────────────────────────────────────────────────────────────────
+
+smaller-requires : tie.Need-smaller-requires
+smaller-requires c κs = search needs
+
+has-unknown-move-requires : tie.Need-has-unknown-move-requires
+has-unknown-move-requires c κs = search needs
+
+returns : tie.Need-returns
+returns c =
+    let s = c .before .before .before .before .args in
+    unnumbered (s .set) (s .sequence) (s .cost) (s .witness .now) _ (c .before .before .smaller .ensures) (sym (c .before .has-unknown-move .ensures) ∙ c .if1 .taken)
+
+costs-at-most-requires : tie.Need-costs-at-most-requires
+costs-at-most-requires c κs =
+    let s = c .before .before .before .before .args in
+    each-number (s .set) (s .sequence) (s .cost) (s .witness .now) _ (c .before .before .smaller .ensures) (sym (c .before .has-unknown-move .ensures) ∙ c .if1 .left)
+
+returns-2 : tie.Need-returns-2
+returns-2 c =
+    let other = c .before .before in
+    let s = other .before .before .before .before .args in
+    dearer (s .set) (s .sequence) (s .cost) (s .witness .now) _ (other .before .before .smaller .ensures) (sym (other .before .has-unknown-move .ensures) ∙ other .if1 .left)
+    (failed (c .before .costs-at-most .ensures) (c .if2 .taken))
+
+returns-3 : tie.Need-returns-3
+returns-3 c =
+    let cost = c .before .before in
+    let other = cost .before .before in
+    let s = other .before .before .before .before .args in
+    never-run (s .set) (s .sequence) (s .cost) (s .witness .now) _ (other .before .before .smaller .ensures) (sym (other .before .has-unknown-move .ensures) ∙ other .if1 .left)
+    (passed (cost .before .costs-at-most .ensures) (cost .if2 .left)) (not-true _ (c .if3 .taken))
+
+leads-requires : tie.Need-leads-requires
+leads-requires c κs =
+    let other = c .before .before .before .before .before .before in
+    let s = other .before .before .before .before .args in
+    each-number (s .set) (s .sequence) (s .cost) (s .witness .now) _ (other .before .before .smaller .ensures) (sym (other .before .has-unknown-move .ensures) ∙ other .if1 .left)
+
+returns-4 : tie.Need-returns-4
+returns-4 c =
+    let admitted = c .before .before .before in
+    let cost = admitted .before .before in
+    let other = cost .before .before in
+    let s = other .before .before .before .before .args in
+    compared (s .set) (s .sequence) (s .cost) (s .witness .now) _ (other .before .before .smaller .ensures) (sym (other .before .has-unknown-move .ensures) ∙ other .if1 .left)
+    (passed (cost .before .costs-at-most .ensures) (cost .if2 .left)) (not-false _ (admitted .if3 .left)) _ (c .leads .ensures)
+
+pub is-redundant-spec : {M : Type 1} → statement M
+is-redundant-spec =
+    tie.close
+    (tie.spec
+    smaller-requires
+    has-unknown-move-requires
+    returns
+    costs-at-most-requires
+    returns-2
+    returns-3
+    leads-requires
+    returns-4)

@@ -1,0 +1,88 @@
+-- `macros::redundancy::leads` meets its contract. The invariant: whether the moves left lead from the entries to the effect decides the whole.
+-- Assumes nothing.
+use mathlib.Core.Path.{_≡_, refl, _∙_}
+use Prim.Native.Nat.{_≤_, _-_}
+use native.Mathlib.Omega.{arith}
+use lib.ListN.{length, drop}
+use borrow.Author.Needs.{needs}
+use Rattle.model.specs.Rules.{runIn}
+use Rattle.model.proofs.LoopLaws.{failed, passed}
+use Rattle.macros.specs.Redundancy.{endsIn}
+use Rattle.macros.proofs.MoveLaws.{numbered-at}
+use Rattle.macros.proofs.MoveLoopLaws.{leads-go, leads-stop, leads-end}
+use Rattle.macros.proofs.redundancy.leads.Statement.{statement}
+use Rattle.macros.proofs.redundancy.leads.Tie as tie
+
+abbrev Inv-loop : tie.InvT-loop
+Inv-loop set moves effect entries₀ i₀ entries i = (i ≤ length moves) × (endsIn (runIn set (drop i moves) entries) effect ≡ endsIn (runIn set moves entries₀) effect)
+
+abbrev μ-loop : tie.MeasureT-loop
+μ-loop set moves effect entries₀ i₀ entries i = length moves - i
+
+loop-holds : tie.Need-loop-holds Inv-loop μ-loop
+loop-holds c = (search needs, refl)
+
+shared-slice-read-rule-at : tie.Need-shared-slice-read-rule-at Inv-loop μ-loop
+shared-slice-read-rule-at c = search needs
+
+rule-at-requires : tie.Need-rule-at-requires Inv-loop μ-loop
+rule-at-requires c κs =
+    let at = c .before .before in
+    numbered-at 31 (at .before .before .args .moves .now) (at .loop .i) (at .before .before .pre) (omega arith)
+
+runs-requires : tie.Need-runs-requires Inv-loop μ-loop
+runs-requires c κs = search needs
+
+returns : tie.Need-returns Inv-loop μ-loop
+returns c =
+    let at = c .before .before .before .before .before .before .before .before .before in
+    let s = at .before .before .args in
+    leads-stop (s .set) (s .moves .now) (at .loop .i) (at .loop .entries) (s .t4) _ (at .loop .inv .1) _
+    (c .before .before .before .before .before .before .rule-at .ensures) (omega arith)
+    (failed (c .before .runs .ensures) (c .if1 .taken))
+
+after-requires : tie.Need-after-requires Inv-loop μ-loop
+after-requires c κs = search needs
+
+add-i : tie.Need-add-i Inv-loop μ-loop
+add-i c = search needs
+
+loop-less : tie.Need-loop-less Inv-loop μ-loop
+loop-less c = search needs
+
+loop-again : tie.Need-loop-again Inv-loop μ-loop
+loop-again c =
+    let ran = c .before .before .before .before in
+    let at = ran .before .before .before .before .before .before .before .before in
+    let s = at .before .before .args in (
+      search needs,
+      leads-go (s .set) (s .moves .now) (at .loop .i) (at .loop .entries) (s .t4) _ (at .loop .inv .1) _ (ran .before .before .before .before .before .rule-at .ensures) (omega arith)
+          (passed (ran .runs .ensures) (c .before .before .before .if1 .left)) _ (c .after .ensures),
+    )
+
+same-entries-requires : tie.Need-same-entries-requires Inv-loop μ-loop
+same-entries-requires c κs = search needs
+
+returns-2 : tie.Need-returns-2 Inv-loop μ-loop
+returns-2 c =
+    let at = c .before .before .before .before in
+    let s = at .before .before .args in
+    c .same-entries .ensures ∙ leads-end (s .set) (s .moves .now) (at .loop .i) (at .loop .entries) (s .t4) _ (at .loop .inv .1) (omega arith)
+
+pub leads-spec : {M : Type 1} → statement M
+leads-spec =
+    tie.close
+    (tie.spec
+    Inv-loop
+    μ-loop
+    loop-holds
+    shared-slice-read-rule-at
+    rule-at-requires
+    runs-requires
+    returns
+    after-requires
+    add-i
+    loop-less
+    loop-again
+    same-entries-requires
+    returns-2)

@@ -1,0 +1,74 @@
+// Redundancy of a sequence with another, decided on the first one's vectors.
+use crate::Vectors;
+use crate::has_unknown_move;
+use crate::rule_at;
+use crate::smaller;
+use model::RuleSet;
+use model::after;
+use model::runs;
+use model::same_entries;
+ghost use mathlib.Core.Path.{_≡_};
+ghost use lib.Dec.{leb};
+ghost use Rattle.theory.specs.Sequences.{Numbered};
+ghost use Rattle.model.specs.Rules.{runIn, sequenceCost};
+ghost use Rattle.macros.specs.Composition.{linesOf};
+ghost use Rattle.macros.specs.Redundancy.{endsIn, redundantByLines};
+
+// Whether a sequence costs at most this.
+fn costs_at_most(set: RuleSet, moves: &[u8], most: u16) -> bool
+    requires { ⌜ Numbered 31 (now moves) ⌝ }
+    ensures { λ r. ⌜ r ≡ leb (sequenceCost set (now (moves .entry))) most ⌝ }
+{
+    let mut left = most;
+    let mut i: usize = 0;
+    while i < moves.len() {
+        let rule = rule_at(set, moves[i]);
+        let cost = rule.cost as u16;
+        if left < cost {
+            return false;
+        }
+        left -= cost;
+        i += 1;
+    }
+    true
+}
+
+// Whether the rules of a sequence run in turn on a condition, as on a state of entries, and end in the effect.
+fn leads(set: RuleSet, moves: &[u8], condition: [u8; 16], effect: [u8; 16]) -> bool
+    requires { ⌜ Numbered 31 (now moves) ⌝ }
+    ensures { λ r. ⌜ r ≡ endsIn (runIn set (now (moves .entry)) condition) effect ⌝ }
+{
+    let mut entries = condition;
+    let mut i: usize = 0;
+    while i < moves.len() {
+        let rule = rule_at(set, moves[i]);
+        let asked = rule.condition;
+        let last = rule.effect;
+        if !runs(&asked, &entries) {
+            return false;
+        }
+        let next = after(&last, &entries);
+        entries = next;
+        i += 1;
+    }
+    same_entries(&entries, &effect)
+}
+
+// Whether a sequence with these vectors and this cost is redundant with the witness, a sequence of the set's rules.
+pub fn is_redundant(set: RuleSet, sequence: Vectors, cost: u16, witness: &[u8]) -> bool
+    ensures { λ r. ⌜ r ≡ redundantByLines set (linesOf sequence) cost (now (witness .entry)) ⌝ }
+{
+    let last = smaller(set.count, 31);
+    if has_unknown_move(last, witness) {
+        return false;
+    }
+    if !costs_at_most(set, witness, cost) {
+        return false;
+    }
+    if !sequence.admitted {
+        return true;
+    }
+    let condition = sequence.condition;
+    let effect = sequence.effect;
+    leads(set, witness, condition, effect)
+}
