@@ -19,14 +19,16 @@ use Rattle.model.specs.Validity.{Valid}
 use Rattle.model.specs.declared.RuleSet.{RuleSet}
 use Rattle.model.proofs.StateLaws.{values-length, applicable-iff}
 use Rattle.model.proofs.RedundancyLaws.{redundant-iff}
-use Rattle.macros.specs.Composition.{Lines, composed}
-use Rattle.macros.specs.Redundancy.{endsIn, covers, lastNumber, redundantByLines}
+use Rattle.macros.specs.Composition.{Lines, composed, linesOf}
+use Rattle.macros.specs.Redundancy.{endsIn, covers, lastNumber, redundantByLines, TellsRedundancy}
+use Rattle.macros.specs.declared.Vectors.{Vectors}
 use Rattle.macros.specs.Answers.{Means, macroAt}
 use Rattle.macros.proofs.MoveLaws.{numbered-iff}
 use Rattle.macros.proofs.VectorLaws.{values-values}
 use Rattle.macros.proofs.CanonicalForm.{Canonical}
 use Rattle.macros.proofs.DistinctLaws.{vectors-equal, values-equal}
 use Rattle.macros.proofs.RunLaws.{run-first-iff}
+use Rattle.macros.proofs.ExtensionLaws.{lines-vectors}
 use Rattle.macros.proofs.MeaningLaws.{rule-canonical, composed-canonical, composed-means, denied-iff}
 
 -- ── Runs on vectors ──────────────────────────────────────────────────────────────────────────────
@@ -120,3 +122,9 @@ module _ (set : RuleSet) (valid : Valid set) (b a : Sequence) (nb : Numbered (se
   redundant-by-lines =
       same-test (redundantByLines set (composed set b) (sequenceCost set b) a) (redundant set b a) (λ e. redundant-iff set b a .1 (redundant-by-lines-iff .0 e))
       (λ e. redundant-by-lines-iff .1 (redundant-iff set b a .0 e))
+
+-- so the test tells of the vectors and the cost of a sequence, as the code keeps them
+pub test-tells : (set : RuleSet) (vectors : Vectors) (cost : ℕ) (a : Sequence) → TellsRedundancy set vectors cost a (redundantByLines set (linesOf vectors) cost a)
+test-tells set vectors cost a b valid nb na ev ec =
+    let lines : linesOf vectors ≡ composed set b = ap linesOf ev ∙ lines-vectors (composed set b) in
+    rw (lines, ec) (redundant-by-lines-iff set valid b a nb na)

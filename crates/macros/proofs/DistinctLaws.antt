@@ -9,10 +9,10 @@ use Prim.Native.Nat.{ℕ, zero, suc, _-_, _%_, _≤_, _<_}
 use native.Mathlib.Omega.{arith}
 use lib.ListN.{length, getD}
 use lib.Seq.{ext-getD}
-use Rattle.theory.proofs.TestLaws.{below?}
+use Rattle.theory.proofs.TestLaws.{below?, equal?}
 use Rattle.model.specs.States.{State, valueOf, valuesOf, width, IsState}
 use Rattle.model.proofs.StateLaws.{value-constant, values-at, values-length}
-use Rattle.macros.proofs.VectorLaws.{equal?, value-place, value-at, value-values, values-values}
+use Rattle.macros.proofs.VectorLaws.{value-place, value-at, value-values, values-values}
 use Rattle.macros.proofs.CanonicalForm.{Fits, Canonical}
 
 -- ── Values to read a vector in: 0, but for a 1 at one place ──────────────────────────────────────

@@ -9,11 +9,11 @@ use Prim.Native.Nat.{ℕ, _≤_, _<_, min, max}
 use native.Mathlib.Omega.{arith}
 use lib.ListN.{getD}
 use Rattle.theory.proofs.ListLaws.{not-both}
-use Rattle.theory.proofs.TestLaws.{below?, ltb-iff, eqb-iff, not-iff, and-iff}
+use Rattle.theory.proofs.TestLaws.{below?, equal?, ltb-iff, eqb-iff, not-iff, and-iff}
 use Rattle.model.specs.States.{State, valueOf, valuesOf, width}
 use Rattle.macros.specs.Composition.{Lines, replaced, clash, equated}
 use Rattle.macros.proofs.CanonicalForm.{Fits, Fitting, Canonical}
-use Rattle.macros.proofs.VectorLaws.{equal?, value-values, exchanged, exchanged-from, exchanged-other, exchanged-to, exchanged-less}
+use Rattle.macros.proofs.VectorLaws.{value-values, exchanged, exchanged-from, exchanged-other, exchanged-to, exchanged-less}
 use Rattle.macros.proofs.VectorLaws.{values-replaced, replaced-length, replaced-at, value-in-replaced, values-in-replaced, replaced-itself}
 use Rattle.macros.proofs.Descriptions.{Leads, Describes, describes-as}
 

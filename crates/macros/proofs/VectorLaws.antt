@@ -1,27 +1,19 @@
 -- Laws of vectors: what stands for what in one vector after another, and one entry replaced by another throughout.
 -- Assumes nothing.
 use mathlib.Core.Path.{_≡_, refl, sym, ap, _∙_}
-use mathlib.Core.Logic.{_⊎_, inl, inr, ⊎-elim}
-use mathlib.Core.Bool.{Bool, true, false, cond}
+use mathlib.Core.Logic.{⊎-elim}
+use mathlib.Core.Bool.{cond}
 use mathlib.Core.List.{List, [], _∷_, map-congr-left}
 use Prim.Native.Nat.{ℕ, _%_, _≤_, _<_}
 use native.Mathlib.Omega.{arith}
 use lib.ListN.{getD, length, length-map, List·getD-map}
 use lib.Dec.{eqb}
-use borrow.Author.Tests.{le-ltb, eqb-true, eqb-false, eq-eqb, ne-eqb}
+use borrow.Author.Tests.{le-ltb, eq-eqb, ne-eqb}
 use Rattle.theory.proofs.ListLaws.{map-of-map}
-use Rattle.theory.proofs.TestLaws.{below?}
+use Rattle.theory.proofs.TestLaws.{below?, equal?}
 use Rattle.model.specs.States.{State, valueOf, valuesOf}
 use Rattle.model.proofs.StateLaws.{value-constant, values-at}
 use Rattle.macros.specs.Composition.{replaced}
-
--- two numbers are equal or not
-pub equal? : (a b : ℕ) → (a ≡ b) ⊎ (a ≡ b → ⊥)
-equal? a b = go (eqb a b) refl
-  where
-    go : (t : Bool) → eqb a b ≡ t → (a ≡ b) ⊎ (a ≡ b → ⊥)
-    go true e = inl (eqb-true a b e)
-    go false e = inr (eqb-false a b e)
 
 -- ── Values ───────────────────────────────────────────────────────────────────────────────────────
 

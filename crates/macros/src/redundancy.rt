@@ -12,7 +12,7 @@ ghost use lib.Dec.{leb};
 ghost use Rattle.theory.specs.Sequences.{Numbered};
 ghost use Rattle.model.specs.Rules.{runIn, sequenceCost};
 ghost use Rattle.macros.specs.Composition.{linesOf};
-ghost use Rattle.macros.specs.Redundancy.{endsIn, redundantByLines};
+ghost use Rattle.macros.specs.Redundancy.{endsIn, redundantByLines, TellsRedundancy};
 
 // Whether a sequence costs at most this.
 fn costs_at_most(set: RuleSet, moves: &[u8], most: u16) -> bool
@@ -56,7 +56,7 @@ fn leads(set: RuleSet, moves: &[u8], condition: [u8; 16], effect: [u8; 16]) -> b
 
 // Whether a sequence with these vectors and this cost is redundant with the witness, a sequence of the set's rules.
 pub fn is_redundant(set: RuleSet, sequence: Vectors, cost: u16, witness: &[u8]) -> bool
-    ensures { λ r. ⌜ r ≡ redundantByLines set (linesOf sequence) cost (now (witness .entry)) ⌝ }
+    ensures { λ r. ⌜ (r ≡ redundantByLines set (linesOf sequence) cost (now (witness .entry))) × TellsRedundancy set sequence cost (now (witness .entry)) r ⌝ }
 {
     let last = smaller(set.count, 31);
     if has_unknown_move(last, witness) {

@@ -7,7 +7,7 @@ use mathlib.Core.List.{List}
 use Prim.Native.Nat.{ℕ, _≤_, _<_}
 use lib.Dec.{leb, ltb, eqb}
 use native.Mathlib.Omega.{arith}
-use borrow.Author.Tests.{leb-true, le-leb, ltb-true, ltb-false, lt-ltb, eqb-true, eq-eqb}
+use borrow.Author.Tests.{leb-true, le-leb, ltb-true, ltb-false, lt-ltb, eqb-true, eqb-false, eq-eqb}
 use Rattle.theory.specs.Lists.{_∈_, any, every, numbersFrom, within, same}
 use Rattle.theory.proofs.ListLaws.{and-split, and-join, every-at, true-every, any-true, true-any, of-numbersFrom, in-numbersFrom, same-true, same-refl}
 
@@ -18,6 +18,14 @@ below? i n = go (ltb i n) refl
     go : (t : Bool) → ltb i n ≡ t → (i < n) ⊎ (n ≤ i)
     go true e = inl (ltb-true i n e)
     go false e = inr (ltb-false i n e)
+
+-- two numbers are equal or not
+pub equal? : (m n : ℕ) → (m ≡ n) ⊎ (m ≡ n → ⊥)
+equal? m n = go (eqb m n) refl
+  where
+    go : (t : Bool) → eqb m n ≡ t → (m ≡ n) ⊎ (m ≡ n → ⊥)
+    go true e = inl (eqb-true m n e)
+    go false e = inr (eqb-false m n e)
 
 pub leb-iff : (m n : ℕ) → (leb m n ≡ true) ↔ (m ≤ n)
 leb-iff m n = (leb-true m n, le-leb m n)

@@ -1,6 +1,6 @@
 -- `macros::redundancy::is_redundant` meets its contract: by what was found of the witness and of the sequence at each way out.
 -- Assumes nothing.
-use mathlib.Core.Path.{_≡_, sym, _∙_}
+use mathlib.Core.Path.{_≡_, sym, subst, _∙_}
 use mathlib.Core.Bool.{Bool, true, false, not}
 use Prim.Native.Nat.{ℕ}
 use native.Mathlib.Omega.{arith}
@@ -14,7 +14,8 @@ use Rattle.model.specs.declared.RuleSet.{RuleSet}
 use Rattle.model.proofs.LoopLaws.{failed, passed}
 use Rattle.macros.specs.Composition.{linesOf}
 use Rattle.macros.specs.declared.Vectors.{Vectors}
-use Rattle.macros.specs.Redundancy.{endsIn, covers, lastNumber, redundantByLines}
+use Rattle.macros.specs.Redundancy.{endsIn, covers, lastNumber, redundantByLines, TellsRedundancy}
+use Rattle.macros.proofs.CoverLaws.{test-tells}
 use Rattle.macros.proofs.MoveLaws.{no-unknown-iff, numbered-test, numbered-wider}
 use Rattle.macros.proofs.redundancy.is_redundant.Statement.{statement}
 use Rattle.macros.proofs.redundancy.is_redundant.Tie as tie
@@ -25,34 +26,39 @@ module _ (set : RuleSet) (sequence : Vectors) (cost : ℕ) (witness : Sequence) 
   abbrev answer : Bool
   answer = redundantByLines set (linesOf sequence) cost witness
 
+  -- the definition's answer, and what it tells
+  found : (r : Bool) → r ≡ answer → (r ≡ answer) × TellsRedundancy set sequence cost witness r
+  found r e = (e, subst (TellsRedundancy set sequence cost witness) (sym e) (test-tells set sequence cost witness))
+
   -- whether each move of the witness is the number of one of the set's rules
   test : every (within 1 (lastNumber set)) witness ≡ not (any (λ r. not (within 1 last r)) witness)
   test = rw (← l) (numbered-test last witness)
 
   -- one is not
-  unnumbered : any (λ r. not (within 1 last r)) witness ≡ true → false ≡ answer
+  unnumbered : any (λ r. not (within 1 last r)) witness ≡ true → (false ≡ answer) × TellsRedundancy set sequence cost witness false
   unfolding redundantByLines
-  unnumbered e = rw (test, e)
+  unnumbered e = found false (rw (test, e))
 
   module _ (numbered : any (λ r. not (within 1 last r)) witness ≡ false) where
     each-number : Numbered 31 witness
     each-number = numbered-wider last 31 witness (omega arith) (no-unknown-iff last witness .0 numbered)
 
     -- the witness costs more
-    dearer : leb (sequenceCost set witness) cost ≡ false → false ≡ answer
+    dearer : leb (sequenceCost set witness) cost ≡ false → (false ≡ answer) × TellsRedundancy set sequence cost witness false
     unfolding redundantByLines
-    dearer d = rw (test, numbered, d)
+    dearer d = found false (rw (test, numbered, d))
 
     -- no state admits the sequence
-    never-run : leb (sequenceCost set witness) cost ≡ true → sequence .admitted ≡ false → true ≡ answer
+    never-run : leb (sequenceCost set witness) cost ≡ true → sequence .admitted ≡ false → (true ≡ answer) × TellsRedundancy set sequence cost witness true
     unfolding redundantByLines covers
-    never-run d a = rw (test, numbered, d, a)
+    never-run d a = found true (rw (test, numbered, d, a))
 
     -- else the run on the condition tells
     compared : leb (sequenceCost set witness) cost ≡ true → sequence .admitted ≡ true
-        → (leads : Bool) → leads ≡ endsIn (runIn set witness (sequence .condition)) (sequence .effect) → leads ≡ answer
+        → (leads : Bool) → leads ≡ endsIn (runIn set witness (sequence .condition)) (sequence .effect)
+        → (leads ≡ answer) × TellsRedundancy set sequence cost witness leads
     unfolding redundantByLines covers
-    compared d a leads e = rw (test, numbered, d, a) e
+    compared d a leads e = found leads (rw (test, numbered, d, a) e)
 
 -- ── The proof ────────────────────────────────────────────────────────────────────────────────────
 
