@@ -1,17 +1,19 @@
--- A sequence stands in `sequences` at its place, and of two sequences the one of the smaller place is before the other.
+-- A sequence's index by arithmetic is its place in `sequences`, and the sequence that an index gives back is the one at that place.
 -- Assumes nothing.
 use mathlib.Core.Path.{_≡_, refl, sym, ap, ap₂, _∙_, subst, fun-ext}
 use mathlib.Core.List.{List, [], _∷_, _++_, map, map-append, append-nil}
 use mathlib.Core.List.{List·Memᴰ·head, List·Memᴰ·tail}
-use Prim.Native.Nat.{ℕ, zero, suc, _+_, _*_, _≤_, _<_}
-use native.Mathlib.Nat.{zero-add, add-zero, add-suc, suc-add, zero-mul, add-mul, suc-mul}
+use Prim.Native.Nat.{ℕ, zero, suc, _+_, _*_, _/_, _%_, _≤_, _<_}
+use native.Mathlib.Nat.{zero-add, add-zero, add-suc, suc-add, zero-mul, add-mul, suc-mul, mul-add-div-right, div-eq-of-lt, mul-add-mod-self-right, mod-eq-of-lt}
+use native.Mathlib.Numerals.{add-one}
 use native.Mathlib.Omega.{arith}
-use lib.ListN.{length, getD}
+use lib.ListN.{length, getD, take, length-map, length-take, List·getD-map}
+use lib.Seq.{take-suc, take-length}
 use Rattle.theory.specs.Lists.{_∈_, flat, numbersFrom}
 use Rattle.theory.specs.Sequences.{Sequence, Numbered, numbers, withFirst, level, sequences}
-use Rattle.theory.specs.Indices.{indexFrom, indexOf, levelStart, levelCount}
-use Rattle.theory.proofs.ListLaws.{flat-same, flat-map, flat-flat, flat-one, map-flat, map-of-map}
-use Rattle.theory.proofs.SequenceLaws.{in-sequences}
+use Rattle.theory.specs.Indices.{indexFrom, indexOf, levelStart, levelCount, sequenceOf}
+use Rattle.theory.proofs.ListLaws.{flat-same, flat-map, flat-flat, flat-one, map-flat, map-of-map, in-getD, length-numbersFrom}
+use Rattle.theory.proofs.SequenceLaws.{numbered-left, numbered-right, of-sequences, in-sequences}
 
 -- ── A level from the one before it, by a last rule ───────────────────────────────────────────────
 
@@ -89,24 +91,76 @@ sequences-all m (suc n) =
     ∙ numbersFrom-append 0 (levelStart m (suc n)) (levelCount m (suc n))
     ∙ ap (numbersFrom 0) (sym (first-next m (suc n)))
 
--- in a list whose elements f numbers one by one, f gives the place
-at-number : (f : Sequence → ℕ) (l : List Sequence) (i k : ℕ) → map f l ≡ numbersFrom i k → {q : Sequence} → q ∈ l
-    → (j : ℕ) × (f q ≡ i + j) × (j < length l) × (getD l j [] ≡ q)
-at-number f [] i k e d = elim d [ ]
-at-number f (x ∷ xs) i zero e d = absurd (let z : _≡_ {A = ℕ} 0 1 = cc in omega arith)
-at-number f (x ∷ xs) i (suc k) e {q} (List·Memᴰ·head p) =
-    let h : f x ≡ i = cc in
-    (0, ap f p ∙ h ∙ sym (add-zero i), omega arith, sym p)
-at-number f (x ∷ xs) i (suc k) e {q} (List·Memᴰ·tail d) =
-    let t : map f xs ≡ numbersFrom (suc i) k = cc in
-    let w = at-number f xs (suc i) k t d in
-    let h = w .1 in
-    let b = w .2 in
-    (suc (w .0), omega arith, omega arith, w .3)
+-- how many sequences there are
+pub sequences-count : (m n : ℕ) → length (sequences m n) ≡ levelStart m (suc n)
+sequences-count m n = sym (length-map (sequences m n) (indexOf m)) ∙ ap length (sequences-all m n) ∙ length-numbersFrom 0 (levelStart m (suc n))
+
+getD-numbersFrom : (k n i : ℕ) → i < n → getD (numbersFrom k n) i 0 ≡ k + i
+getD-numbersFrom k zero i h = absurd (omega arith)
+getD-numbersFrom k (suc n) zero h = sym (add-zero k)
+getD-numbersFrom k (suc n) (suc i) h = getD-numbersFrom (suc k) n i (omega arith) ∙ suc-add k i ∙ sym (add-suc k i)
+
+-- the index by arithmetic of the sequence at a place is that place
+pub index-of-place : (m n i : ℕ) → i < length (sequences m n) → indexOf m (getD (sequences m n) i []) ≡ i
+index-of-place m n i h =
+    sym (List·getD-map (indexOf m) (sequences m n) i [])
+    ∙ ap (λ l. getD l i 0) (sequences-all m n)
+    ∙ getD-numbersFrom 0 (levelStart m (suc n)) i (omega (arith, sequences-count m n))
+    ∙ zero-add i
+
+place-of : (l : List Sequence) {q : Sequence} → q ∈ l → (i : ℕ) × (i < length l) × (getD l i [] ≡ q)
+place-of [] d = elim d [ ]
+place-of (x ∷ xs) (List·Memᴰ·head e) = (0, omega arith, sym e)
+place-of (x ∷ xs) (List·Memᴰ·tail d) = let w = place-of xs d in (suc (w .0), omega (arith, w .1), w .2)
 
 -- a sequence stands in `sequences` at its place
 pub index-at : (m n : ℕ) (q : Sequence) → length q ≤ n → Numbered m q → (indexOf m q < length (sequences m n)) × (getD (sequences m n) (indexOf m q) [] ≡ q)
 index-at m n q h k =
-    let w = at-number (indexOf m) (sequences m n) 0 (levelStart m (suc n)) (sequences-all m n) (in-sequences m n q h k) in
-    let e : indexOf m q ≡ w .0 = w .1 ∙ zero-add (w .0) in
-    (subst (λ j. j < length (sequences m n)) (sym e) (w .2), ap (λ j. getD (sequences m n) j []) e ∙ w .3)
+    let w = place-of (sequences m n) (in-sequences m n q h k) in
+    let e : indexOf m q ≡ w .0 = ap (indexOf m) (sym (w .2)) ∙ index-of-place m n (w .0) (w .1) in
+    (subst (λ j. j < length (sequences m n)) (sym e) (w .1), ap (λ j. getD (sequences m n) j []) e ∙ w .2)
+
+-- ── Back from the index to the sequence ──────────────────────────────────────────────────────────
+
+-- a last rule stands apart: it is the remainder, and 1; the index of the rules before it is the quotient
+sequence-snoc : (m k i r : ℕ) → 1 ≤ r → r ≤ m → sequenceOf m (suc k) (i * m + r) ≡ sequenceOf m k i ++ (r ∷ [])
+sequence-snoc m k i zero h l = absurd (omega arith)
+sequence-snoc m k i (suc r) h l = ap (sequenceOf m (suc k)) (add-suc (i * m) r) ∙ ap₂ (λ j n. sequenceOf m k j ++ (n ∷ [])) quotient remainder
+  where
+    quotient : (i * m + r) / m ≡ i
+    quotient = mul-add-div-right {m = m} (omega arith) i r ∙ ap (λ n. i + n) (div-eq-of-lt l) ∙ add-zero i
+
+    remainder : (i * m + r) % m + 1 ≡ suc r
+    remainder = ap (λ n. n + 1) (mul-add-mod-self-right i m r ∙ mod-eq-of-lt l) ∙ add-one r
+
+sequence-of-index : (m k : ℕ) (q : Sequence) → length q ≤ k → Numbered m q → sequenceOf m k (indexOf m q) ≡ q
+sequence-of-index m zero [] h n = refl
+sequence-of-index m zero (r ∷ q) h n = absurd (omega arith)
+sequence-of-index m (suc k) [] h n = refl
+sequence-of-index m (suc k) (r ∷ q) h n =
+    ap (λ w. sequenceOf m (suc k) (indexOf m w)) cut
+    ∙ ap (sequenceOf m (suc k)) (index-snoc m 0 front end)
+    ∙ sequence-snoc m k (indexOf m front) end (last .0) (last .1)
+    ∙ ap (λ w. w ++ (end ∷ [])) (sequence-of-index m k front (omega (arith, length-take (length q) (r ∷ q))) (numbered-left m front (end ∷ []) numbered))
+    ∙ sym cut
+  where
+    front : Sequence
+    front = take (length q) (r ∷ q)
+
+    end : ℕ
+    end = getD (r ∷ q) (length q) 0
+
+    cut : r ∷ q ≡ front ++ (end ∷ [])
+    cut = sym (take-length (r ∷ q)) ∙ take-suc (r ∷ q) (length q) 0 (omega arith)
+
+    numbered : Numbered m (front ++ (end ∷ []))
+    numbered = subst (Numbered m) cut n
+
+    last : Numbered m (end ∷ [])
+    last = numbered-right m front (end ∷ []) numbered
+
+-- the sequence that the index gives back is the one at its place
+pub sequence-at : (m n k i : ℕ) → n ≤ k → i < length (sequences m n) → sequenceOf m k i ≡ getD (sequences m n) i []
+sequence-at m n k i h l =
+    let w = of-sequences m n (in-getD (sequences m n) i [] l) in
+    ap (sequenceOf m k) (sym (index-of-place m n i l)) ∙ sequence-of-index m k (getD (sequences m n) i []) (omega (arith, w .0)) (w .1)

@@ -1,7 +1,7 @@
--- The index of a sequence by arithmetic: the number (r₁ · m + r₂) · m + r₃ and so on.
--- No promise of a public call mentions this file: document 01's index is a position in `sequences`, and the law `index-at` says that the two are the same.
-use mathlib.Core.List.{[], _∷_}
-use Prim.Native.Nat.{ℕ, zero, suc, _+_, _*_}
+-- The index of a sequence by arithmetic, the number (r₁ · m + r₂) · m + r₃ and so on, and back.
+-- No promise of a public call mentions this file: document 01's index is a position in `sequences`, and the laws `index-at` and `sequence-at` say that the two are the same.
+use mathlib.Core.List.{[], _∷_, _++_}
+use Prim.Native.Nat.{ℕ, zero, suc, _+_, _*_, _/_, _%_}
 use Rattle.theory.specs.Sequences.{Sequence}
 
 -- the index of q behind a sequence whose index is i
@@ -21,3 +21,9 @@ levelStart m (suc n) = levelStart m n * m + 1
 abbrev pub levelCount : ℕ → ℕ → ℕ
 levelCount m zero = 1
 levelCount m (suc n) = levelCount m n * m
+
+-- the sequence of an index, of at most n rules: its last rule is the remainder of i - 1 by m, and 1; the rules before it have the quotient as their index
+abbrev pub sequenceOf : ℕ → ℕ → ℕ → Sequence
+sequenceOf m zero i = []
+sequenceOf m (suc n) zero = []
+sequenceOf m (suc n) (suc k) = sequenceOf m n (k / m) ++ ((k % m + 1) ∷ [])
