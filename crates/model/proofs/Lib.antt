@@ -5,3 +5,4 @@ pub mod LoopLaws
 pub mod ValidityLaws
 pub mod Shapes
 pub mod CheckLaws
+pub mod BufferLaws

@@ -17,10 +17,10 @@ use Rattle.theory.specs.Lists.{any, every, numbersFrom, same}
 -- ── A test of the numbers from 0 to n ────────────────────────────────────────────────────────────
 
 -- the numbers that are left at i: i first, where there is one
-left-more : (i n : ℕ) → i < n → numbersFrom i (n - i) ≡ i ∷ numbersFrom (i + 1) (n - (i + 1))
+pub left-more : (i n : ℕ) → i < n → numbersFrom i (n - i) ≡ i ∷ numbersFrom (i + 1) (n - (i + 1))
 left-more i n h = let e : n - i ≡ suc (n - (i + 1)) = omega arith in rw (e, add-one i)
 
-left-none : (i n : ℕ) → n ≤ i → numbersFrom i (n - i) ≡ []
+pub left-none : (i n : ℕ) → n ≤ i → numbersFrom i (n - i) ≡ []
 left-none i n h = let e : n - i ≡ 0 = omega arith in rw e
 
 module _ (p : ℕ → Bool) (i n : ℕ) (X : Bool) where

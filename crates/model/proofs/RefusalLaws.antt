@@ -33,6 +33,12 @@ refusal-append [] after z e = refl
 refusal-append ((n, true) ∷ before) after z e = absurd (z .0 e)
 refusal-append ((n, false) ∷ before) after z e = refusal-append before after (z .1) e
 
+-- causes of which one holds, before others
+pub refusal-before : (before after : List Cause) → firstRefusal before ≢ 0 → firstRefusal (before ++ after) ≡ firstRefusal before
+refusal-before [] after h = absurd (h refl)
+refusal-before ((n, true) ∷ before) after h = refl
+refusal-before ((n, false) ∷ before) after h = refusal-before before after h
+
 -- no cause has a number above n
 abbrev pub AtMost : ℕ → List Cause → Type 0
 AtMost n [] = Unit {0}

@@ -1,4 +1,6 @@
-// States, rules and rule sets.
+// States, rules and rule sets; and what every call does to a buffer that it blanks.
+pub mod buffers;
+
 ghost use mathlib.Core.Path.{_≡_};
 ghost use Prim.Native.Nat.{_<_, _≤_};
 ghost use lib.ListN.{getD};

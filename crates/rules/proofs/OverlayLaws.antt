@@ -1,14 +1,15 @@
 -- Laws of bytes laid over a text: one piece after another, piece by piece in a loop, and zeros after what was laid.
 -- Assumes nothing.
 use mathlib.Core.Path.{_≡_, refl, sym, ap, _∙_}
-use mathlib.Core.List.{List, [], _∷_, _++_, append-nil}
-use Prim.Native.Nat.{ℕ, suc, _+_, _-_, _≤_, _<_}
+use mathlib.Core.List.{List, [], _∷_, _++_}
+use Prim.Native.Nat.{ℕ, suc, _+_, _-_, _≤_}
 use native.Mathlib.Numerals.{add-one}
 use native.Mathlib.Omega.{arith}
-use lib.ListN.{length, take, drop, set, replicate, length-append, length-set}
-use lib.Seq.{sets, length-sets, sets-eq, set-out, take-all, take-at, take-suc-set, append-snoc}
+use lib.ListN.{length, take, drop, set, replicate, length-append}
+use lib.Seq.{sets, length-sets, sets-eq, set-out, take-at}
 use Rattle.theory.specs.Lists.{padded}
-use Rattle.rules.specs.Overlay.{overlaid, Laid, cleared}
+use Rattle.model.specs.Buffers.{filledFrom}
+use Rattle.rules.specs.Overlay.{overlaid, Laid}
 
 -- ── Pieces ───────────────────────────────────────────────────────────────────────────────────────
 
@@ -82,28 +83,16 @@ module _ {at : ℕ} {all before : List ℕ} {next : ℕ} {bytes current : List �
 
 -- ── Zeros ────────────────────────────────────────────────────────────────────────────────────────
 
--- one more zero
-pub cleared-more : (i : ℕ) (text : List ℕ) → i < length text → cleared (i + 1) (set text i 0) ≡ cleared i text
-unfolding cleared
-cleared-more i text h =
-    let e : length text - i ≡ suc (length text - suc i) = omega arith in
-    rw (add-one i, length-set text i 0, take-suc-set text i 0 h, e) (append-snoc (take i text) 0 (replicate (length text - suc i) 0))
-
--- past the end there is nothing to clear
-pub cleared-past : (i : ℕ) (text : List ℕ) → length text ≤ i → cleared i text ≡ text
-unfolding cleared
-cleared-past i text h = let e : length text - i ≡ 0 = omega arith in rw (e, take-all i text h) (append-nil text)
-
 -- zeros throughout
-pub cleared-whole : (text : List ℕ) → cleared 0 text ≡ padded (length text) 0 []
-unfolding cleared
-cleared-whole text = refl
+pub zeros-whole : (text : List ℕ) → filledFrom 0 0 text ≡ padded (length text) 0 []
+unfolding filledFrom
+zeros-whole text = refl
 
 -- zeros after bytes that were laid from the start on, and fit
-pub cleared-laid : {bytes before after : List ℕ} {next : ℕ} → Laid 0 bytes before next after → length bytes ≤ length before
-    → cleared next after ≡ padded (length before) 0 bytes
-unfolding cleared
-cleared-laid {bytes} {before} {after} {next} p h =
+pub zeros-laid : {bytes before after : List ℕ} {next : ℕ} → Laid 0 bytes before next after → length bytes ≤ length before
+    → filledFrom 0 next after ≡ padded (length before) 0 bytes
+unfolding filledFrom
+zeros-laid {bytes} {before} {after} {next} p h =
     let e : next ≡ length bytes = omega arith in
     rw (p .text, overlaid-length 0 bytes before, e) (ap (λ t. t ++ replicate (length before - length bytes) 0) front)
   where

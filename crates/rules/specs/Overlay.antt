@@ -1,8 +1,8 @@
 -- What a function of the writer leaves of a buffer. No answer mentions it: it ties the functions to the definition of the file.
 use mathlib.Core.Path.{_≡_}
 use mathlib.Core.List.{List, [], _∷_, _++_, map}
-use Prim.Native.Nat.{ℕ, _+_, _-_}
-use lib.ListN.{length, take, set, replicate}
+use Prim.Native.Nat.{ℕ, _+_}
+use lib.ListN.{length, take, set}
 use Rattle.rules.specs.Text.{commaList, lineFeed}
 
 -- the text with these bytes laid over it from a place on, as far as it reaches
@@ -14,10 +14,6 @@ overlaid at (b ∷ bytes) text = overlaid (at + 1) bytes (set text at b)
 pub record Laid (at : ℕ) (bytes before : List ℕ) (next : ℕ) (after : List ℕ) : Type 0 where
   pub place : next ≡ at + length bytes
   pub text : after ≡ overlaid at bytes before
-
--- the text with zeros from a place on
-unfoldable pub cleared : ℕ → List ℕ → List ℕ
-cleared from text = take from text ++ replicate (length text - from) 0
 
 -- what stands after the key of a line with the first `count` of these items
 unfoldable pub listText : (ℕ → List ℕ) → ℕ → List ℕ → List ℕ

@@ -3,7 +3,7 @@ use crate::Found;
 use crate::FoundNumber;
 ghost use mathlib.Core.Path.{_≡_};
 ghost use Prim.Native.Nat.{_≤_, _<_};
-ghost use lib.ListN.{length, getD, drop};
+ghost use lib.ListN.{length, drop};
 ghost use Rattle.rules.specs.Reading.{literal, isDigit, digits, isNumber, decimal, number, numberWithin, variable, constant, entry, endingOf};
 ghost use Rattle.rules.specs.Found.{found};
 

@@ -5,6 +5,7 @@ mod output;
 
 use model::Rule;
 use model::RuleSet;
+use model::buffers::fill_from;
 ghost use mathlib.Core.Path.{_≡_};
 ghost use lib.ListN.{length};
 ghost use Rattle.model.specs.Rules.{blankRule, emptySet};
@@ -136,7 +137,7 @@ pub fn write(set: RuleSet, text: &mut [u8]) -> Written
     ensures { λ r. ⌜ (r ≡ written set (length (now (text .entry)))) × (now (text .exit) ≡ writtenBuffer set (length (now (text .entry)))) ⌝ }
 {
     if !model::is_valid(set) {
-        output::clear(text, 0);
+        fill_from(text, 0, 0);
         return Written {
             outcome: 7,
             length: 0,
@@ -144,13 +145,13 @@ pub fn write(set: RuleSet, text: &mut [u8]) -> Written
     }
     let end = output::put_file(text, set);
     if text.len() < end {
-        output::clear(text, 0);
+        fill_from(text, 0, 0);
         return Written {
             outcome: 8,
             length: 0,
         };
     }
-    output::clear(text, end);
+    fill_from(text, end, 0);
     Written {
         outcome: 0,
         length: end,

@@ -3,25 +3,13 @@
 use crate::items::ending;
 use model::Rule;
 use model::RuleSet;
-ghost use mathlib.Core.Path.{_≡_};
 ghost use mathlib.Core.List.{[], _∷_, _++_};
 ghost use Prim.Native.Nat.{_+_, _≤_};
 ghost use lib.ListN.{length, take};
 ghost use Rattle.theory.specs.Lists.{flat};
 ghost use Rattle.rules.specs.Text.{numeral, lineFeed};
 ghost use Rattle.rules.specs.File.{entryText, ruleText, render};
-ghost use Rattle.rules.specs.Overlay.{Laid, cleared, listText};
-
-// Zeros from a place on.
-pub(crate) fn clear(text: &mut [u8], from: usize)
-    ensures { λ _. ⌜ now (text .exit) ≡ cleared from (now (text .entry)) ⌝ }
-{
-    let mut i = from;
-    while i < text.len() {
-        text[i] = 0;
-        i += 1;
-    }
-}
+ghost use Rattle.rules.specs.Overlay.{Laid, listText};
 
 // One byte.
 fn put(text: &mut [u8], at: usize, byte: u8) -> usize

@@ -16,7 +16,7 @@ use Rattle.model.proofs.ValidityLaws.{valid-iff}
 use Rattle.rules.specs.File.{render}
 use Rattle.rules.specs.Writing.{writeCauses, writtenText, written, writtenBuffer}
 use Rattle.rules.proofs.LengthLaws.{render-bound}
-use Rattle.rules.proofs.OverlayLaws.{laid-length, cleared-whole, cleared-laid}
+use Rattle.rules.proofs.OverlayLaws.{laid-length, zeros-whole, zeros-laid}
 use Rattle.rules.proofs.write.Statement.{statement}
 use Rattle.rules.proofs.write.Tie as tie
 
@@ -38,8 +38,8 @@ module _ (set : RuleSet) (room : ℕ) where
 is-valid-requires : tie.Need-is-valid-requires
 is-valid-requires c κs = search needs
 
-clear-requires : tie.Need-clear-requires
-clear-requires c κs = search needs
+fill-from-requires : tie.Need-fill-from-requires
+fill-from-requires c κs = search needs
 
 same-length : tie.Need-same-length
 same-length c = search needs
@@ -49,7 +49,7 @@ returns c =
     let branch = c .before .before .before .before in
     let s = branch .before .before .before .args in
     let w = not-valid (s .set) (length (s .text .now)) (failed (branch .before .is-valid .ensures) (branch .if1 .taken)) in
-    (w .0, c .before .before .clear .ensures ∙ cleared-whole _ ∙ w .1)
+    (w .0, c .before .before .fill-from .ensures ∙ zeros-whole _ ∙ w .1)
 
 put-file-requires : tie.Need-put-file-requires
 put-file-requires c κs =
@@ -58,8 +58,8 @@ put-file-requires c κs =
     let v : Valid set = valid-iff set .0 t in
     (v .positionLimits .0, v .positionLimits .1, v .countLimits .1, omega (arith, render-bound set t))
 
-clear-requires-2 : tie.Need-clear-requires-2
-clear-requires-2 c κs = search needs
+fill-from-requires-2 : tie.Need-fill-from-requires-2
+fill-from-requires-2 c κs = search needs
 
 same-length-2 : tie.Need-same-length-2
 same-length-2 c = search needs
@@ -71,10 +71,10 @@ returns-2 c =
     let s = branch .before .before .before .args in
     let same = laid-length (file .put-file .ensures) in
     let w = no-room (s .set) (length (s .text .now)) (passed (branch .before .is-valid .ensures) (branch .if1 .left)) (omega arith) in
-    (w .0, c .before .before .clear2 .ensures ∙ cleared-whole _ ∙ ap (λ n. padded n 0 []) same ∙ w .1)
+    (w .0, c .before .before .fill-from2 .ensures ∙ zeros-whole _ ∙ ap (λ n. padded n 0 []) same ∙ w .1)
 
-clear-requires-3 : tie.Need-clear-requires-3
-clear-requires-3 c κs = search needs
+fill-from-requires-3 : tie.Need-fill-from-requires-3
+fill-from-requires-3 c κs = search needs
 
 same-length-3 : tie.Need-same-length-3
 same-length-3 c = search needs
@@ -87,20 +87,20 @@ returns-3 c =
     let laid = file .put-file .ensures in
     let same = laid-length laid in
     let w = fits (s .set) (length (s .text .now)) (file .put-file .result) (passed (branch .before .is-valid .ensures) (branch .if1 .left)) (omega arith) (omega arith) in
-    (w .0, c .before .before .clear3 .ensures ∙ cleared-laid laid (omega arith) ∙ w .1)
+    (w .0, c .before .before .fill-from3 .ensures ∙ zeros-laid laid (omega arith) ∙ w .1)
 
 pub write-spec : {M : Type 1} → statement M
 write-spec =
     tie.close
     (tie.spec
     is-valid-requires
-    clear-requires
+    fill-from-requires
     same-length
     returns
     put-file-requires
-    clear-requires-2
+    fill-from-requires-2
     same-length-2
     returns-2
-    clear-requires-3
+    fill-from-requires-3
     same-length-3
     returns-3)
