@@ -13,8 +13,8 @@ use Rattle.rules.specs.Text.{bytes, numeral, line}
 use Rattle.rules.specs.Reading.{literal, digits, isNumber, decimal, number, numberWithin, variable, constant, entry, sizeItem, conditionItem, effectItem, itemsAfter, numberLine, listLine, ruleLines, rulesAfter, ruleList, fileLines, finished, reading}
 use Rattle.macros.specs.Composition.{ownVariables, emptyLines, replaced, clash, equated, unified, followed, extended, composedFrom, composed}
 use Rattle.macros.specs.Answers.{macroCauses, macroAnswer}
-use Rattle.pruning.specs.Table.{tableEntries, sequenceAt, entryAt, marked, builtEntry, builtTable, entryJustified, accepted}
-use Rattle.pruning.specs.Answers.{tableCauses, buildOutcome, builtBuffer, checkCauses, checkOutcome}
+use Rattle.tables.specs.Table.{tableEntries, sequenceAt, entryAt, marked, builtEntry, builtTable, entryJustified, accepted}
+use Rattle.tables.specs.Answers.{tableCauses, buildOutcome, builtBuffer, checkCauses, checkOutcome}
 use Rattle.search.specs.Query.{Query, startFits, goalFits, meetsGoal, visitedBy, plansFor}
 use Rattle.search.specs.Searched.{queryCauses, cheapestPlan, searchCauses, shownPlan, searchedWith, searched}
 use Rattle.search.specs.PlanPart.{planPart}

@@ -12,7 +12,7 @@ use Rattle.theory.specs.Indices.{indexOf}
 use Rattle.theory.specs.Recursion.{shortSuffixes, last}
 use Rattle.model.specs.Refusals.{firstRefusal}
 use Rattle.rules.specs.Text.{bytes, numeral, line}
-use Rattle.pruning.specs.Table.{sequenceCount}
+use Rattle.tables.specs.Table.{sequenceCount}
 
 pub case-sequences : sequences 2 2 ≡ [] ∷ (1 ∷ []) ∷ (2 ∷ []) ∷ (1 ∷ 1 ∷ []) ∷ (1 ∷ 2 ∷ []) ∷ (2 ∷ 1 ∷ []) ∷ (2 ∷ 2 ∷ []) ∷ []
 case-sequences = refl

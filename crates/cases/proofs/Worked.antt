@@ -15,8 +15,8 @@ use Rattle.rules.specs.Reading.{literal, digits, isNumber, decimal, number, num
 use Rattle.macros.specs.Composition.{Lines, ownVariables, emptyLines, replaced, clash, equated, unified, followed, extended, composedFrom, composed}
 use Rattle.macros.specs.Answers.{macroCauses, macroAnswer}
 use Rattle.macros.specs.declared.MacroAnswer.{MacroAnswer}
-use Rattle.pruning.specs.Table.{tableEntries, sequenceAt, entryAt, marked, builtEntry, builtTable, entryJustified, accepted}
-use Rattle.pruning.specs.Answers.{tableCauses, buildOutcome, builtBuffer, checkCauses, checkOutcome}
+use Rattle.tables.specs.Table.{tableEntries, sequenceAt, entryAt, marked, builtEntry, builtTable, entryJustified, accepted}
+use Rattle.tables.specs.Answers.{tableCauses, buildOutcome, builtBuffer, checkCauses, checkOutcome}
 use Rattle.search.specs.Query.{Query, startFits, goalFits, meetsGoal, visitedBy, plansFor}
 use Rattle.search.specs.Searched.{Searched, queryCauses, cheapestPlan, searchCauses, shownPlan, searchedWith, searched}
 use Rattle.planner.specs.Packed.{searchedText, packedSearch}

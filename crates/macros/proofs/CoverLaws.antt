@@ -78,7 +78,7 @@ ends-iff (some t) effect =
     (λ e. ap {B = Option State} some (same-iff t effect .0 e), λ e. same-iff t effect .1 (Option·some-injective t effect e))
 
 -- the test that each is the number of one of the set's rules passes
-numbered-passes : (set : RuleSet) → Valid set → (a : Sequence) → Numbered (set .count) a → every (within 1 (lastNumber set)) a ≡ true
+pub numbered-passes : (set : RuleSet) → Valid set → (a : Sequence) → Numbered (set .count) a → every (within 1 (lastNumber set)) a ≡ true
 numbered-passes set valid a h =
     let last = lastNumber set in
     let k = valid .countLimits .1 in

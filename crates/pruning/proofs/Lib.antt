@@ -1,2 +1,5 @@
-pub mod TableLaws
-pub mod AnswerLaws
+pub mod EntryLaws
+pub mod WitnessLaws
+pub mod SequenceLoopLaws
+pub mod TableLoopLaws
+pub mod Shapes

@@ -1,1 +1,127 @@
-// Pruning tables: definitions and laws; the calls are to come.
+// Pruning tables (document 01: drop tables): the builder and the check (document 01: the judge).
+mod sequences;
+mod witnesses;
+
+use macros::redundancy::is_redundant;
+use model::RuleSet;
+use model::buffers::fill_from;
+use model::is_valid;
+use sequences::profile_at;
+use sequences::sequence_at;
+use sequences::sequence_count;
+use witnesses::entry_for;
+ghost use mathlib.Core.Path.{_≡_};
+ghost use Prim.Native.Nat.{_+_, _*_, _≤_, _<_};
+ghost use lib.ListN.{length};
+ghost use Rattle.model.specs.Validity.{Valid};
+ghost use Rattle.tables.specs.Table.{tableEntries, entryAt, builtTable, entryJustified, accepted};
+ghost use Rattle.tables.specs.Answers.{buildOutcome, builtBuffer, BuildMeaning, checkOutcome, CheckMeaning};
+
+// The entry of a sequence that is kept.
+const KEPT: usize = 65535;
+
+// The first of the causes that all calls on a table share that holds: 7, 5 or 6; 0 if none does.
+fn table_refusal(set: RuleSet, reach: usize, size: usize) -> u8
+    ensures { λ r. ⌜ r ≡ buildOutcome set reach size ⌝ }
+{
+    if !is_valid(set) {
+        return 7;
+    }
+    if reach < 1 {
+        return 5;
+    }
+    if 3 < reach {
+        return 5;
+    }
+    if size != 2 * sequence_count(set.count, reach) {
+        return 6;
+    }
+    0
+}
+
+// Writes every entry, in order. `reach` is for the contract alone: a table of a smaller reach begins as that of reach 3 does.
+fn write_entries(set: RuleSet, reach: usize, table: &mut [u8])
+    requires { ⌜ Valid set × (reach ≤ 3) × (length (now table) ≡ 2 * tableEntries set reach) ⌝ }
+    ensures { λ _. ⌜ now (table .exit) ≡ builtTable set reach ⌝ }
+{
+    let count = table.len() / 2;
+    let mut i: usize = 0;
+    while i < count {
+        let entry = entry_for(set, i);
+        table[2 * i] = (entry % 256) as u8;
+        table[2 * i + 1] = (entry / 256) as u8;
+        i += 1;
+    }
+}
+
+// Builds the table of a rule set for a reach: each entry is the smallest witness of its sequence, or 65535.
+pub fn build_table(set: RuleSet, reach: usize, table: &mut [u8]) -> u8
+    ensures { λ r. ⌜ (r ≡ buildOutcome set reach (length (now (table .entry)))) × (now (table .exit) ≡ builtBuffer set reach (length (now (table .entry)))) × BuildMeaning set reach (length (now (table .entry))) r (now (table .exit)) ⌝ }
+{
+    let outcome = table_refusal(set, reach, table.len());
+    if outcome != 0 {
+        fill_from(table, 0, 0);
+        return outcome;
+    }
+    write_entries(set, reach, table);
+    0
+}
+
+// An entry of a table: two bytes, low byte first.
+fn entry_at(table: &[u8], i: usize) -> usize
+    requires { ⌜ 2 * i + 1 < length (now table) ⌝ }
+    ensures { λ r. ⌜ (r ≡ entryAt (now (table .entry)) i) × (r < 65536) ⌝ }
+{
+    let low = table[2 * i] as usize;
+    let high = table[2 * i + 1] as usize;
+    low + 256 * high
+}
+
+// Whether an entry keeps its sequence, or names a smaller index with whose sequence it is redundant.
+fn justified(set: RuleSet, table: &[u8], i: usize) -> bool
+    requires { ⌜ Valid set × (i < tableEntries set 3) × (2 * i + 1 < length (now table)) ⌝ }
+    ensures { λ r. ⌜ r ≡ entryJustified set 3 (now (table .entry)) i ⌝ }
+{
+    let entry = entry_at(table, i);
+    if entry == KEPT {
+        return true;
+    }
+    if i <= entry {
+        return false;
+    }
+    let own = profile_at(set, i);
+    let witness = sequence_at(set.count, entry);
+    let start = witness.start;
+    let rules = witness.rules;
+    is_redundant(set, own.vectors, own.cost, &rules[start..])
+}
+
+// Whether every entry is justified. Entry 0 has no smaller index to name, so it has to be 65535. `reach` is for the contract alone, as in `write_entries`.
+fn is_accepted(set: RuleSet, reach: usize, table: &[u8]) -> bool
+    requires { ⌜ Valid set × (reach ≤ 3) × (length (now table) ≡ 2 * tableEntries set reach) ⌝ }
+    ensures { λ r. ⌜ r ≡ accepted set reach (now (table .entry)) ⌝ }
+{
+    let count = table.len() / 2;
+    let mut i: usize = 0;
+    while i < count {
+        if !justified(set, table, i) {
+            return false;
+        }
+        i += 1;
+    }
+    true
+}
+
+// Checks a table, whoever made it: whether each of its marks is justified.
+pub fn check_table(set: RuleSet, reach: usize, table: &[u8]) -> u8
+    ensures { λ r. ⌜ (r ≡ checkOutcome set reach (now (table .entry))) × CheckMeaning set reach (now (table .entry)) r ⌝ }
+{
+    let outcome = table_refusal(set, reach, table.len());
+    if outcome != 0 {
+        return outcome;
+    }
+    if !is_accepted(set, reach, table) {
+        return 14;
+    }
+    0
+}

@@ -9,7 +9,7 @@ use Rattle.theory.specs.Sequences.{Sequence}
 use Rattle.model.specs.declared.RuleSet.{RuleSet}
 use Rattle.rules.specs.Text.{numeral, line}
 use Rattle.rules.specs.Reading.{reading}
-use Rattle.pruning.specs.Table.{tableEntries, sequenceAt, builtEntry, kept}
+use Rattle.tables.specs.Table.{tableEntries, sequenceAt, builtEntry, kept}
 
 -- the reach of every listing
 abbrev pub listedReach : ℕ

@@ -20,7 +20,7 @@ use Rattle.model.specs.Validity.{valid, Valid}
 use Rattle.model.specs.declared.RuleSet.{RuleSet}
 use Rattle.model.proofs.RefusalLaws.{no-refusal-iff, refusal-at-most}
 use Rattle.model.proofs.ValidityLaws.{valid-iff, valid-cost}
-use Rattle.pruning.specs.Answers.{tableCauses}
+use Rattle.tables.specs.Answers.{tableCauses}
 use Rattle.search.specs.Query.{Query, visitedBy}
 use Rattle.search.specs.Searched.{queryCauses, cheapestPlan, searchCauses, isAnswer, planOf, shownPlan, noMove, searchedWith, searched}
 use Rattle.search.proofs.Demand.{blank-buffer, cheapest-leads}

@@ -19,7 +19,7 @@ use Rattle.model.specs.Refusals.{Cause, firstRefusal, NonZero}
 use Rattle.model.specs.Rules.{ruleCost, sequenceCost}
 use Rattle.model.specs.declared.RuleSet.{RuleSet}
 use Rattle.model.proofs.RefusalLaws.{no-refusal-iff, refusal-append}
-use Rattle.pruning.specs.Answers.{tableCauses}
+use Rattle.tables.specs.Answers.{tableCauses}
 use Rattle.search.specs.Query.{Query, visitedBy, plansFor, LeadsToGoal}
 use Rattle.search.specs.Searched.{queryCauses, cheapestPlan, searchCauses, shownPlan, planOf, noMove, searchedWith, searched, NotRefused, Demand3}
 use Rattle.search.proofs.VisitedLaws.{visited-iff, visited-once, plans-iff, plans-ordered}

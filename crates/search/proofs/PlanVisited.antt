@@ -20,9 +20,9 @@ use Rattle.model.specs.Validity.{valid, Valid}
 use Rattle.model.specs.declared.RuleSet.{RuleSet}
 use Rattle.model.proofs.StateLaws.{width-position, width-beyond}
 use Rattle.model.proofs.ValidityLaws.{valid-iff, valid-closed}
-use Rattle.pruning.specs.Table.{marked, accepted}
-use Rattle.pruning.specs.Answers.{tableCauses}
-use Rattle.pruning.proofs.TableLaws.{accepted-justified}
+use Rattle.tables.specs.Table.{marked, accepted}
+use Rattle.tables.specs.Answers.{tableCauses}
+use Rattle.tables.proofs.TableLaws.{accepted-justified}
 use Rattle.search.specs.Query.{Query, startFits, startState, meetsGoal, visitedBy, plansFor}
 use Rattle.search.specs.Searched.{queryCauses, cheapestPlan, NotRefused}
 use Rattle.search.proofs.VisitedLaws.{unpruned-iff, visited-iff}

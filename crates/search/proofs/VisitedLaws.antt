@@ -20,8 +20,8 @@ use Rattle.theory.proofs.VisitLaws.{of-allowed, in-allowed}
 use Rattle.model.specs.States.{State}
 use Rattle.model.specs.Rules.{stepOf, ruleCost, runIn, sequenceCost}
 use Rattle.model.specs.declared.RuleSet.{RuleSet}
-use Rattle.pruning.specs.Table.{marked}
-use Rattle.pruning.proofs.TableLaws.{marked-iff}
+use Rattle.tables.specs.Table.{marked}
+use Rattle.tables.proofs.TableLaws.{marked-iff}
 use Rattle.search.specs.Query.{Query, startState, anyValue, meetsGoal, visitedBy, plansFor, RunsWithin, MeetsGoal, LeadsToGoal, Unpruned}
 
 -- the test of the goal is the statement

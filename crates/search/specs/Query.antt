@@ -12,7 +12,7 @@ use Rattle.theory.specs.Plans.{candidates, visited}
 use Rattle.model.specs.States.{State}
 use Rattle.model.specs.Rules.{stepOf, ruleCost, runIn, sequenceCost}
 use Rattle.model.specs.declared.RuleSet.{RuleSet}
-use Rattle.pruning.specs.Table.{marked, Marked}
+use Rattle.tables.specs.Table.{marked, Marked}
 
 -- what a search is asked: the table and its reach, the start, the goal, the move bound (0 to 32), the cost bound (16 bits), the step limit (document 01: the ceiling, 32 bits),
 -- and the plan buffer's length in bytes

@@ -13,8 +13,8 @@ use Rattle.theory.specs.Plans.{cheapest, Preferred}
 use Rattle.model.specs.Refusals.{Cause, firstRefusal, NoneHolds}
 use Rattle.model.specs.Rules.{ruleCost, sequenceCost}
 use Rattle.model.specs.declared.RuleSet.{RuleSet}
-use Rattle.pruning.specs.Table.{accepted}
-use Rattle.pruning.specs.Answers.{tableCauses}
+use Rattle.tables.specs.Table.{accepted}
+use Rattle.tables.specs.Answers.{tableCauses}
 use Rattle.search.specs.Query.{Query, startFits, goalFits, visitedBy, plansFor, RunsWithin, LeadsToGoal, Unpruned}
 use Rattle.search.specs.declared.Answer.{Answer}
 

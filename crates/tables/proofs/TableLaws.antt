@@ -1,51 +1,31 @@
--- Laws of the pruning table: how many sequences it has entries for, when it is accepted, what it marks, what the built table holds, and that the marks of an accepted one are justified.
+-- Laws of the pruning table: which sequences it has entries for, when it is accepted, what it marks, what the built table holds, and that the marks of an accepted one are justified.
 -- Assumes nothing.
 use mathlib.Core.Path.{_≡_, refl, sym, ap, ap₂, _∙_, subst}
 use mathlib.Core.Logic.{_↔_, _⊎_, inl, inr, _≢_, ⊎-elim}
 use mathlib.Core.Bool.{Bool, true, false, cond}
 use mathlib.Core.List.{List, [], _∷_, List·Memᴰ·tail}
-use Prim.Native.Nat.{ℕ, zero, suc, _+_, _*_, _/_, _%_, _^_, _≤_, _<_}
-use native.Mathlib.Nat.{zero-add, add-zero, mod-add-div, mod-lt, div-lt-iff-lt-mul, pow-zero, pow-suc, pow-le-pow-left}
+use Prim.Native.Nat.{ℕ, zero, suc, _+_, _*_, _/_, _%_, _≤_, _<_}
+use native.Mathlib.Nat.{zero-add, add-zero, mod-add-div, mod-lt, div-lt-iff-lt-mul}
 use native.Mathlib.Omega.{arith}
-use lib.ListN.{length, getD, take, length-append, length-map}
+use lib.Dec.{eqb}
+use lib.ListN.{length, getD, take}
 use lib.Seq.{length-take-le, getD-take}
-use Rattle.theory.specs.Lists.{_∈_, flat, numbersFrom, same}
-use Rattle.theory.specs.Sequences.{Sequence, Numbered, level, sequences}
+use borrow.Author.Tests.{eq-eqb}
+use Rattle.theory.specs.Lists.{_∈_, every, flat, numbersFrom, same}
+use Rattle.theory.specs.Sequences.{Sequence, Numbered, sequences}
 use Rattle.theory.specs.Order.{Before}
-use Rattle.theory.specs.Indices.{indexOf, levelStart, levelCount}
+use Rattle.theory.specs.Indices.{indexOf}
 use Rattle.theory.specs.Pruning.{Justified}
-use Rattle.theory.proofs.ListLaws.{not-both, here, in-getD, of-numbersFrom, length-numbersFrom}
-use Rattle.theory.proofs.TestLaws.{below?, ltb-iff, eqb-iff, same-iff, not-iff, and-iff, unless-iff, every-below-iff, any-below-iff}
+use Rattle.theory.proofs.ListLaws.{and-split, and-join, same-test, not-both, every-at, here, in-getD, in-numbersFrom, of-numbersFrom, length-numbersFrom}
+use Rattle.theory.proofs.TestLaws.{below?, equal?, ltb-iff, eqb-iff, same-iff, not-iff, and-iff, unless-iff, every-below-iff, any-below-iff}
 use Rattle.theory.proofs.SequenceLaws.{of-sequences}
 use Rattle.theory.proofs.OrderLaws.{sequences-index, index-sequences}
-use Rattle.theory.proofs.IndexLaws.{level-indices, index-at}
+use Rattle.theory.proofs.IndexLaws.{index-at}
 use Rattle.model.specs.Rules.{stepOf, ruleCost, StateOf, admitted, redundant, RedundantIn}
 use Rattle.model.specs.declared.RuleSet.{RuleSet}
-use Rattle.model.proofs.RedundancyLaws.{redundant-iff, not-admitted-redundant}
-use Rattle.pruning.specs.Table.{sequenceCount, tableEntries, sequenceAt, kept, entryAt, entryBytes, marked, firstIndex, builtEntry, builtTable, entryJustified, accepted, Marked, Prunable, MarkJustified, Accepted, LeastWitness}
-
--- ── How many entries ─────────────────────────────────────────────────────────────────────────────
-
--- m ^ n sequences have exactly n of m rules
-level-count : (m n : ℕ) → length (level m n) ≡ m ^ n
-level-count m n = sym (length-map (level m n) (indexOf m)) ∙ ap length (level-indices m n) ∙ length-numbersFrom (levelStart m n) (levelCount m n) ∙ size n
-  where
-    size : (n : ℕ) → levelCount m n ≡ m ^ n
-    size zero = sym (pow-zero m)
-    size (suc n) = ap (λ k. k * m) (size n) ∙ sym (pow-suc m n)
-
--- S counts the sequences of at most `reach` of m rules
-pub count-sequences : (m reach : ℕ) → length (sequences m reach) ≡ sequenceCount m reach
-count-sequences m zero = refl
-count-sequences m (suc reach) = length-append (sequences m reach) (level m (suc reach)) ∙ ap₂ _+_ (count-sequences m reach) (level-count m (suc reach))
-
--- a table has at most 30784 entries
-pub count-bound : (m reach : ℕ) → m ≤ 31 → reach ≤ 3 → sequenceCount m reach ≤ 30784
-count-bound m zero h k = omega arith
-count-bound m (suc zero) h k = omega (arith, pow-le-pow-left h 1)
-count-bound m (suc (suc zero)) h k = omega (arith, pow-le-pow-left h 1, pow-le-pow-left h 2)
-count-bound m (suc (suc (suc zero))) h k = omega (arith, pow-le-pow-left h 1, pow-le-pow-left h 2, pow-le-pow-left h 3)
-count-bound m (suc (suc (suc (suc reach)))) h k = absurd (omega arith)
+use Rattle.model.proofs.RedundancyLaws.{redundant-iff, redundant-trans, not-admitted-redundant}
+use Rattle.tables.specs.Table.{tableEntries, sequenceAt, kept, entryAt, entryBytes, marked, firstIndex, builtEntry, builtTable, entryJustified, accepted, Marked, Prunable, MarkJustified, Accepted, LeastWitness}
+use Rattle.tables.proofs.CountLaws.{count-sequences, count-bound}
 
 -- ── Tests ────────────────────────────────────────────────────────────────────────────────────────
 
@@ -155,6 +135,17 @@ module _ (set : RuleSet) (reach : ℕ) where
   unfolding accepted
   accepted-iff table = and-iff _ _ (eqb-iff (entryAt table 0) kept) (every-below-iff _ _ (entry-justified-iff table) (tableEntries set reach))
 
+  -- each entry is justified exactly then: entry 0 has no smaller index to name
+  pub accepted-entries : (table : List ℕ) → accepted set reach table ≡ every (entryJustified set reach table) (numbersFrom 0 (tableEntries set reach))
+  unfolding accepted
+  accepted-entries table = same-test _ _ (λ e. and-split (eqb (entryAt table 0) kept) _ e .1) (λ e. and-join (first e) e)
+    where
+      first : every (entryJustified set reach table) (numbersFrom 0 (tableEntries set reach)) ≡ true → eqb (entryAt table 0) kept ≡ true
+      first e =
+          let some = sequence-index [] (omega arith) tt .1 in
+          let j = every-at (entryJustified set reach table) e (in-numbersFrom 0 (tableEntries set reach) 0 (omega arith) (omega arith)) in
+          ⊎-elim (eq-eqb (entryAt table 0) kept) (λ m. absurd (omega (arith, entry-justified-iff table 0 .0 j m .0))) (equal? (entryAt table 0) kept)
+
   -- ── Marks ──────────────────────────────────────────────────────────────────────────────────────
 
   pub marked-iff : (table : List ℕ) (q : Sequence) → (marked set reach table q ≡ true) ↔ Marked set reach table q
@@ -221,6 +212,22 @@ module _ (set : RuleSet) (reach : ℕ) where
   -- a mark of the built table is the smallest index with whose sequence its own is redundant
   pub built-least : (i : ℕ) → i < tableEntries set reach → builtEntry set reach i ≢ kept → LeastWitness set reach i (builtEntry set reach i)
   built-least i h m = ⊎-elim (λ w. absurd (m (w .0))) (λ w. w) (built-cases i h)
+
+  -- and is not marked itself
+  pub witness-kept : (i : ℕ) → i < tableEntries set reach → builtEntry set reach i ≢ kept → builtEntry set reach (builtEntry set reach i) ≡ kept
+  witness-kept i h m = ⊎-elim (λ w. w .0) (λ w. absurd (smaller w)) (built-cases first (omega (arith, least .0)))
+    where
+      first : ℕ
+      first = builtEntry set reach i
+
+      least : LeastWitness set reach i first
+      least = built-least i h m
+
+      -- its own witness would be a smaller one of i
+      smaller : LeastWitness set reach first (builtEntry set reach first) → ⊥
+      smaller w =
+          let r = redundant-trans set (sequenceAt set reach i) (sequenceAt set reach first) (sequenceAt set reach (builtEntry set reach first)) (least .1 .0) (w .1 .0) in
+          omega (arith, w .0, least .1 .1 (builtEntry set reach first) r)
 
   module _ (rules : set .count ≤ 31) (near : reach ≤ 3) where
     -- an entry of the built table is an index or 65535, and fits two bytes

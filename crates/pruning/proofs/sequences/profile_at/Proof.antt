@@ -1,0 +1,58 @@
+-- `pruning::sequences::profile_at` meets its contract: the rules that it lends are the sequence of the index.
+-- Assumes nothing.
+use mathlib.Core.Path.{sym, ap, _∙_, subst}
+use Prim.Native.Nat.{_≤_}
+use native.Mathlib.Omega.{arith}
+use lib.ListN.{length}
+use borrow.Author.Needs.{needs}
+use Rattle.theory.specs.Sequences.{Sequence, Numbered}
+use Rattle.model.specs.Rules.{sequenceCost}
+use Rattle.macros.specs.Composition.{composed, asVectors}
+use Rattle.macros.proofs.MoveLaws.{numbered-wider}
+use Rattle.tables.specs.Table.{tableEntries, sequenceAt}
+use Rattle.pruning.proofs.Shapes.{rules-3}
+use Rattle.pruning.proofs.SequenceLoopLaws.{part-sequence}
+use Rattle.tables.proofs.TableLaws.{index-sequence}
+use Rattle.pruning.proofs.sequences.profile_at.Statement.{statement}
+use Rattle.pruning.proofs.sequences.profile_at.Tie as tie
+
+sequence-at-requires : tie.Need-sequence-at-requires
+unfolding tableEntries
+sequence-at-requires c κs = (c .pre .0 .countLimits .0, c .pre .0 .countLimits .1, c .pre .1)
+
+sub-profile-of : tie.Need-sub-profile-of
+sub-profile-of c = search needs
+
+part-profile-of-start : tie.Need-part-profile-of-start
+part-profile-of-start c = search needs
+
+part-profile-of-end : tie.Need-part-profile-of-end
+part-profile-of-end c = let at = c .before .before .sequence-at in omega (arith, rules-3 (at .result) _ (at .ok))
+
+profile-of-requires : tie.Need-profile-of-requires
+profile-of-requires c κs =
+    let at = c .before .before .before .sequence-at in
+    let s = c .before .before .before .before in
+    let set = s .args .set in
+    let lent = part-sequence set (s .args .index) (s .pre .1) (at .result .start) (at .result .rules) (rules-3 (at .result) _ (at .ok)) (at .ensures .1) in
+    let is = index-sequence set 3 (s .args .index) (s .pre .1) in
+    subst (λ (q : Sequence). Numbered 31 q × (length q ≤ 3)) (sym lent) (numbered-wider (set .count) 31 (sequenceAt set 3 (s .args .index)) (s .pre .0 .countLimits .1) (is .1), is .0)
+
+returns : tie.Need-returns
+returns c =
+    let at = c .before .before .before .before .sequence-at in
+    let s = c .before .before .before .before .before in
+    let set = s .args .set in
+    let lent = part-sequence set (s .args .index) (s .pre .1) (at .result .start) (at .result .rules) (rules-3 (at .result) _ (at .ok)) (at .ensures .1) in
+    (c .profile-of .ensures .0 ∙ ap (λ q. asVectors (composed set q)) lent, c .profile-of .ensures .1 ∙ ap (sequenceCost set) lent)
+
+pub profile-at-spec : {M : Type 1} → statement M
+profile-at-spec =
+    tie.close
+    (tie.spec
+    sequence-at-requires
+    sub-profile-of
+    part-profile-of-start
+    part-profile-of-end
+    profile-of-requires
+    returns)

@@ -1,0 +1,60 @@
+-- `pruning::witnesses::entry_for` meets its contract: what the search finds for the sequence's vectors and cost is its own index or the witness.
+-- Assumes nothing.
+use mathlib.Core.Path.{_≡_, sym, ap, ap₂, _∙_}
+use mathlib.Core.Bool.{cond}
+use Prim.Native.Nat.{ℕ, _≤_, _<_}
+use native.Mathlib.Omega.{arith}
+use lib.Dec.{eqb}
+use borrow.Author.Tests.{eq-eqb, ne-eqb}
+use borrow.Author.Needs.{needs}
+use Rattle.theory.specs.Sequences.{sequences}
+use Rattle.model.specs.Rules.{sequenceCost}
+use Rattle.model.specs.Validity.{Valid}
+use Rattle.model.specs.declared.RuleSet.{RuleSet}
+use Rattle.macros.specs.Composition.{composed, asVectors, linesOf}
+use Rattle.macros.specs.declared.Vectors.{Vectors}
+use Rattle.macros.proofs.ExtensionLaws.{lines-vectors}
+use Rattle.tables.specs.Table.{tableEntries, sequenceAt, kept, builtEntry}
+use Rattle.pruning.specs.Witnesses.{firstBehind, serves}
+use Rattle.tables.proofs.TableLaws.{entries-bound}
+use Rattle.pruning.proofs.EntryLaws.{built-found}
+use Rattle.pruning.proofs.witnesses.entry_for.Statement.{statement}
+use Rattle.pruning.proofs.witnesses.entry_for.Tie as tie
+
+module _ (set : RuleSet) (valid : Valid set) (i : ℕ) (h : i < tableEntries set 3) (vectors : Vectors) (cost : ℕ)
+    (v : vectors ≡ asVectors (composed set (sequenceAt set 3 i))) (c : cost ≡ sequenceCost set (sequenceAt set 3 i))
+    (f : ℕ) (e : f ≡ firstBehind (set .count) 0 (serves set (linesOf vectors) cost) (sequences (set .count) 3)) where
+  -- what is found
+  found : (f ≤ i) × (builtEntry set 3 i ≡ cond (eqb f i) kept f)
+  found =
+      built-found set valid i h f
+      (e ∙ ap₂ (λ lines n. firstBehind (set .count) 0 (serves set lines n) (sequences (set .count) 3)) (ap linesOf v ∙ lines-vectors (composed set (sequenceAt set 3 i))) c)
+
+  own-index : f ≡ i → (kept ≡ builtEntry set 3 i) × (kept < 65536)
+  own-index same = (sym (found .1 ∙ rw (eq-eqb f i same)), omega arith)
+
+  witness : (f ≡ i → ⊥) → (f ≡ builtEntry set 3 i) × (f < 65536)
+  witness other = (sym (found .1 ∙ rw (ne-eqb f i other)), omega (arith, found .0, entries-bound set 3 (valid .countLimits .1) (omega arith)))
+
+profile-at-requires : tie.Need-profile-at-requires
+profile-at-requires c κs = search needs
+
+smallest-witness-requires : tie.Need-smallest-witness-requires
+smallest-witness-requires c κs = search needs
+
+returns : tie.Need-returns
+returns c =
+    let own = c .before .before in
+    let s = own .before in
+    own-index (s .args .set) (s .pre .0) (s .args .index) (s .pre .1) (own .profile-at .result .vectors) (own .profile-at .result .cost) (own .profile-at .ensures .0) (own .profile-at .ensures .1)
+    (c .before .smallest-witness .result) (c .before .smallest-witness .ensures) (c .if1 .taken)
+
+returns-2 : tie.Need-returns-2
+returns-2 c =
+    let own = c .before .before in
+    let s = own .before in
+    witness (s .args .set) (s .pre .0) (s .args .index) (s .pre .1) (own .profile-at .result .vectors) (own .profile-at .result .cost) (own .profile-at .ensures .0) (own .profile-at .ensures .1)
+    (c .before .smallest-witness .result) (c .before .smallest-witness .ensures) (c .if1 .left)
+
+pub entry-for-spec : {M : Type 1} → statement M
+entry-for-spec = tie.close (tie.spec profile-at-requires smallest-witness-requires returns returns-2)

@@ -1,0 +1,115 @@
+-- `pruning::witnesses::smallest_witness` meets its contract. The invariant: no sequence of fewer than `more` rules is a witness.
+-- Assumes nothing.
+use mathlib.Core.Path.{_≡_, sym, ap, _∙_}
+use mathlib.Core.Bool.{Bool, true, false, cond}
+use mathlib.Core.Option.{some, none}
+use Prim.Native.Nat.{ℕ, _-_, _≤_}
+use native.Mathlib.Omega.{arith}
+use borrow.Author.Tests.{not-true, not-false, le-leb}
+use borrow.Author.Needs.{needs}
+use Rattle.theory.specs.Sequences.{Sequence, sequences}
+use Rattle.model.specs.Rules.{sequenceCost}
+use Rattle.model.specs.declared.RuleSet.{RuleSet}
+use Rattle.macros.specs.Composition.{linesOf}
+use Rattle.macros.specs.Redundancy.{covers}
+use Rattle.macros.specs.declared.Vectors.{Vectors}
+use Rattle.tables.specs.Table.{kept}
+use Rattle.pruning.specs.Witnesses.{firstBehind, serves}
+use Rattle.tables.proofs.CountLaws.{count-levels}
+use Rattle.pruning.proofs.WitnessLaws.{serves-last, upTo, empty-found, empty-next, lengths-next, lengths-found, lengths-end}
+use Rattle.pruning.proofs.witnesses.smallest_witness.Statement.{statement}
+use Rattle.pruning.proofs.witnesses.smallest_witness.Tie as tie
+
+module _ (set : RuleSet) (v : Vectors) (cost : ℕ) where
+  -- no state admits the sequence: the empty one is a witness
+  denied : v .admitted ≡ false → 0 ≡ firstBehind (set .count) 0 (serves set (linesOf v) cost) (sequences (set .count) 3)
+  unfolding serves covers sequenceCost
+  denied h = empty-found (set .count) (serves set (linesOf v) cost) (rw (le-leb 0 cost (omega arith), h))
+
+  -- else the search is from the condition to the effect
+  abbrev aim : Sequence → Bool
+  aim = serves set (some (record { condition = v .condition; effect = v .effect })) cost
+
+  admitted : v .admitted ≡ true → (r : ℕ) → r ≡ firstBehind (set .count) 0 aim (sequences (set .count) 3) → r ≡ firstBehind (set .count) 0 (serves set (linesOf v) cost) (sequences (set .count) 3)
+  admitted h r e = e ∙ ap (λ b. firstBehind (set .count) 0 (serves set (cond b (some (record { condition = v .condition; effect = v .effect })) none) cost) (sequences (set .count) 3)) (sym h)
+
+abbrev Inv-loop : tie.InvT-loop
+Inv-loop set cost condition effect more₀ more =
+    (1 ≤ more) × (more ≤ 4) × (upTo (set .count) (serves set (some (record { condition = condition; effect = effect })) cost) (more - 1) ≡ kept)
+
+abbrev μ-loop : tie.MeasureT-loop
+μ-loop set cost condition effect more₀ more = 4 - more
+
+returns : tie.Need-returns Inv-loop μ-loop
+returns c =
+    let s = c .before .before .args in
+    denied (s .set) (s .sequence) (s .cost) (not-true _ (c .if1 .taken))
+
+same-entries-requires : tie.Need-same-entries-requires Inv-loop μ-loop
+same-entries-requires c κs = search needs
+
+returns-2 : tie.Need-returns-2 Inv-loop μ-loop
+returns-2 c =
+    let test = c .before .before .before .before .before .before in
+    let s = test .before .before .args in
+    admitted (s .set) (s .sequence) (s .cost) (not-false _ (test .if1 .left)) 0
+    (empty-found (s .set .count) (aim (s .set) (s .sequence) (s .cost)) (serves-last (s .set) (s .sequence .condition) (s .cost) (s .sequence .effect) ∙ sym (c .before .same-entries .ensures) ∙ c .if2 .taken))
+
+loop-holds : tie.Need-loop-holds Inv-loop μ-loop
+loop-holds c =
+    let s = c .before .before .before .before .before .before .before .before .args in
+    (omega arith, omega arith, empty-next (s .set .count) (aim (s .set) (s .sequence) (s .cost)) (serves-last (s .set) (s .sequence .condition) (s .cost) (s .sequence .effect) ∙ sym (c .before .same-entries .ensures) ∙ c .if2 .left))
+
+with-more-requires : tie.Need-with-more-requires Inv-loop μ-loop
+with-more-requires c κs =
+    let at = c .before .before .before in
+    let s = at .before .before .before .before .before .before .before .before .before in
+    (at .loop .inv .0, omega arith, s .pre, omega (arith, count-levels (s .args .set .count) (3 - at .loop .more)))
+
+returns-3 : tie.Need-returns-3 Inv-loop μ-loop
+returns-3 c =
+    let at = c .before .before .before .before .before in
+    let test = at .before .before .before .before .before .before .before in
+    let s = test .before .before in
+    admitted (s .args .set) (s .args .sequence) (s .args .cost) (not-false _ (test .if1 .left)) _
+    (lengths-found (s .args .set .count) (aim (s .args .set) (s .args .sequence) (s .args .cost)) (s .pre) (at .loop .more) (at .loop .inv .0) (omega arith) (at .loop .inv .2) _ (c .before .with-more .ensures) (c .if3 .taken))
+
+add-more : tie.Need-add-more Inv-loop μ-loop
+add-more c = search needs
+
+loop-less : tie.Need-loop-less Inv-loop μ-loop
+loop-less c = search needs
+
+loop-again : tie.Need-loop-again Inv-loop μ-loop
+loop-again c =
+    let at = c .before .before .before .before .before in
+    let s = at .before .before .before .before .before .before .before .before .before in (
+      omega arith,
+      omega arith,
+      lengths-next (s .args .set .count) (aim (s .args .set) (s .args .sequence) (s .args .cost)) (s .pre) (at .loop .more) (at .loop .inv .0) (omega arith) (at .loop .inv .2) _ (c .before .with-more .ensures) (c .if3 .left),
+    )
+
+returns-4 : tie.Need-returns-4 Inv-loop μ-loop
+returns-4 c =
+    let at = c .before in
+    let test = at .before .before .before .before .before .before .before in
+    let s = test .before .before in
+    admitted (s .args .set) (s .args .sequence) (s .args .cost) (not-false _ (test .if1 .left)) 65535
+    (lengths-end (s .args .set .count) (aim (s .args .set) (s .args .sequence) (s .args .cost)) (at .loop .more) (omega arith) (omega arith) (at .loop .inv .2))
+
+pub smallest-witness-spec : {M : Type 1} → statement M
+smallest-witness-spec =
+    tie.close
+    (tie.spec
+    Inv-loop
+    μ-loop
+    returns
+    same-entries-requires
+    returns-2
+    loop-holds
+    with-more-requires
+    returns-3
+    add-more
+    loop-less
+    loop-again
+    returns-4)

@@ -1,0 +1,4 @@
+pub mod CountLaws
+pub mod TableLaws
+pub mod ReachLaws
+pub mod AnswerLaws

@@ -1,0 +1,1 @@
+// Pruning tables (document 01: drop tables), over all states: definitions and laws alone.
