@@ -3,20 +3,20 @@
 use mathlib.Core.Path.{_≡_, refl, sym, ap, ap₂, _∙_, subst}
 use mathlib.Core.Logic.{_↔_, _⊎_, inl, inr, _≢_, ⊎-elim}
 use mathlib.Core.Bool.{Bool, true, false, cond}
-use mathlib.Core.List.{List, [], _∷_, List·Memᴰ·tail}
+use mathlib.Core.List.{List, [], _∷_}
 use Prim.Native.Nat.{ℕ, zero, suc, _+_, _*_, _/_, _%_, _≤_, _<_}
-use native.Mathlib.Nat.{zero-add, add-zero, mod-add-div, mod-lt, div-lt-iff-lt-mul}
+use native.Mathlib.Nat.{zero-add, add-zero, mod-add-div}
 use native.Mathlib.Omega.{arith}
 use lib.Dec.{eqb}
 use lib.ListN.{length, getD, take}
 use lib.Seq.{length-take-le, getD-take}
 use borrow.Author.Tests.{eq-eqb}
-use Rattle.theory.specs.Lists.{_∈_, every, flat, numbersFrom, same}
+use Rattle.theory.specs.Lists.{every, flat, numbersFrom, same}
 use Rattle.theory.specs.Sequences.{Sequence, Numbered, sequences}
 use Rattle.theory.specs.Order.{Before}
 use Rattle.theory.specs.Indices.{indexOf}
 use Rattle.theory.specs.Pruning.{Justified}
-use Rattle.theory.proofs.ListLaws.{and-split, and-join, same-test, not-both, every-at, here, in-getD, in-numbersFrom, of-numbersFrom, length-numbersFrom}
+use Rattle.theory.proofs.ListLaws.{and-split, and-join, same-test, not-both, every-at, in-getD, in-numbersFrom, length-numbersFrom}
 use Rattle.theory.proofs.TestLaws.{below?, equal?, ltb-iff, eqb-iff, same-iff, not-iff, and-iff, unless-iff, every-below-iff, any-below-iff}
 use Rattle.theory.proofs.SequenceLaws.{of-sequences}
 use Rattle.theory.proofs.OrderLaws.{sequences-index, index-sequences}
@@ -56,12 +56,6 @@ entry-of f k (suc n) (suc i) h =
 entries-size : (f : ℕ → ℕ) (l : List ℕ) → length (entriesOf f l) ≡ 2 * length l
 entries-size f [] = refl
 entries-size f (x ∷ l) = omega (arith, entries-size f l)
-
-entries-byte : (f : ℕ → ℕ) (l : List ℕ) → ((i : ℕ) → i ∈ l → f i < 65536) → (j : ℕ) → getD (entriesOf f l) j 0 < 256
-entries-byte f [] h j = omega arith
-entries-byte f (x ∷ l) h zero = mod-lt (f x) (omega arith)
-entries-byte f (x ∷ l) h (suc zero) = div-lt-iff-lt-mul {k = 256} {x = f x} {y = 256} (omega arith) .1 (h x (here x l))
-entries-byte f (x ∷ l) h (suc (suc j)) = entries-byte f l (λ i d. h i (List·Memᴰ·tail d)) j
 
 -- ── The first index ──────────────────────────────────────────────────────────────────────────────
 
@@ -230,14 +224,6 @@ module _ (set : RuleSet) (reach : ℕ) where
           omega (arith, w .0, least .1 .1 (builtEntry set reach first) r)
 
   module _ (rules : set .count ≤ 31) (near : reach ≤ 3) where
-    -- an entry of the built table is an index or 65535, and fits two bytes
-    pub built-fits : (i : ℕ) → i < tableEntries set reach → builtEntry set reach i ≤ 65535
-    built-fits i h = ⊎-elim (λ w. omega (arith, w .0)) (λ w. omega (arith, w .0, entries-bound rules near)) (built-cases i h)
-
-    pub built-byte : (j : ℕ) → getD (builtTable set reach) j 0 < 256
-    unfolding builtTable
-    built-byte = entries-byte (builtEntry set reach) (numbersFrom 0 (tableEntries set reach)) (λ i d. let b = of-numbersFrom 0 (tableEntries set reach) d in omega (arith, built-fits i (omega arith)))
-
     -- the built table marks exactly the indices of prunable sequences
     pub built-mark-iff : (i : ℕ) → i < tableEntries set reach → (builtEntry set reach i ≢ kept) ↔ Prunable set reach (sequenceAt set reach i)
     built-mark-iff i h = (λ m. prunable (built-least i h m), λ p. ⊎-elim (λ w. absurd (found p (w .1))) (λ w e. omega (arith, w .0, e, entries-bound rules near)) (built-cases i h))
