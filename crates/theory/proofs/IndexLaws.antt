@@ -36,7 +36,8 @@ level-snoc m (suc n) =
 
 -- ── The places of a level are neighbours ─────────────────────────────────────────────────────────
 
-index-snoc : (m i : ℕ) (q : Sequence) (r : ℕ) → indexFrom m i (q ++ (r ∷ [])) ≡ indexFrom m i q * m + r
+-- the index with one more rule behind the sequence
+pub index-snoc : (m i : ℕ) (q : Sequence) (r : ℕ) → indexFrom m i (q ++ (r ∷ [])) ≡ indexFrom m i q * m + r
 index-snoc m i [] r = refl
 index-snoc m i (p ∷ q) r = index-snoc m (i * m + p) q r
 

@@ -11,7 +11,7 @@ use lib.Dec.{eqb}
 use borrow.Author.Tests.{eqb-true, eqb-false, eq-eqb}
 use native.Mathlib.Omega.{arith}
 use lib.ListN.{length, getD, replicate, length-append, length-replicate}
-use Rattle.theory.specs.Lists.{_∈_, keepIf, keep, any, every, Pairwise, isSome, padded, flat, numbersFrom, same}
+use Rattle.theory.specs.Lists.{_∈_, keepIf, keep, any, every, Pairwise, isSome, padded, flat, foldOver, numbersFrom, same}
 
 -- ── Tests ────────────────────────────────────────────────────────────────────────────────────────
 
@@ -163,6 +163,10 @@ module _ {A B : Type 0} where
   flat-append f [] t = refl
   flat-append f (x ∷ xs) t = ap (λ r. f x ++ r) (flat-append f xs t) ∙ sym (append-assoc (f x) (flat f xs) (flat f t))
 
+  pub fold-append : (f : A → B → B) (s t : List A) (b : B) → foldOver f b (s ++ t) ≡ foldOver f (foldOver f b s) t
+  fold-append f [] t b = refl
+  fold-append f (x ∷ s) t b = fold-append f s t (f x b)
+
   pub flat-one : (f : A → B) (l : List A) → flat (λ a. f a ∷ []) l ≡ map f l
   flat-one f [] = refl
   flat-one f (x ∷ xs) = ap {B = List B} (λ r. f x ∷ r) (flat-one f xs)
@@ -264,6 +268,12 @@ in-numbersFrom i (suc n) r h k = go (passes? (eqb r i)) (in-numbersFrom (suc i) 
 pub length-numbersFrom : (i n : ℕ) → length (numbersFrom i n) ≡ n
 length-numbersFrom i zero = refl
 length-numbersFrom i (suc n) = ap suc (length-numbersFrom (suc i) n)
+
+-- zeros read with the default 0
+pub zeros-at : (n i : ℕ) → getD {A = ℕ} (replicate n 0) i 0 ≡ 0
+zeros-at zero i = refl
+zeros-at (suc n) zero = refl
+zeros-at (suc n) (suc i) = zeros-at n i
 
 -- ── The test of sameness ─────────────────────────────────────────────────────────────────────────
 

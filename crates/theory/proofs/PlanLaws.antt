@@ -1,28 +1,28 @@
 -- Where every mark is justified, the pruned depth-first search answers with the cheapest candidate, or with none where there is no candidate.
 -- Assumes nothing.
-use mathlib.Core.Path.{_≡_, refl, sym, ap, _∙_, subst, fun-ext}
+use mathlib.Core.Path.{_≡_, refl, sym, ap, _∙_, subst}
 use mathlib.Core.Logic.{_⊎_, inl, inr}
 use mathlib.Core.Bool.{Bool, true, false, cond, _&&_, _||_}
 use mathlib.Core.Option.{Option, some, none}
-use mathlib.Core.List.{List, [], _∷_, _++_}
+use mathlib.Core.List.{List, [], _∷_}
 use mathlib.Core.List.{List·Memᴰ·head, List·Memᴰ·tail, List·Memᴰ·not-nil}
-use Prim.Native.Nat.{ℕ, zero, suc, _<_}
+use Prim.Native.Nat.{ℕ, _<_}
 use native.Mathlib.Omega.{arith}
 use lib.Dec.{ltb, eqb}
 use lib.ListN.{length}
 use borrow.Author.Tests.{ltb-true, lt-ltb, eqb-true, eq-eqb, le-leb, ltb-false}
-use Rattle.theory.specs.Lists.{_∈_, keep, keepIf, flat, Pairwise, isSome}
-use Rattle.theory.specs.Sequences.{Sequence, andThen, run, costOf, numbers, sequences, depthFirst}
+use Rattle.theory.specs.Lists.{_∈_, keep, keepIf, Pairwise, isSome}
+use Rattle.theory.specs.Sequences.{Sequence, run, costOf, sequences, depthFirst}
 use Rattle.theory.specs.Order.{LexBefore, Before}
 use Rattle.theory.specs.Pruning.{pruned, Closed, Justified}
-use Rattle.theory.specs.Plans.{endsIn, reaches, isPlan, candidates, cheapest, Preferred, Least, allowed, isVisited, visited}
-use Rattle.theory.specs.Recursion.{enter, explore, allowedNext, better, improved, best, noted, overRules, enterWith, seek}
+use Rattle.theory.specs.Plans.{reaches, isPlan, candidates, cheapest, Preferred, Least, allowed, isVisited, visited}
+use Rattle.theory.specs.Recursion.{better, improved, best}
 use Rattle.theory.proofs.ListLaws.{or-split, or-left, or-right, and-split, and-join, here, in-keep, of-keep, pairwise-keep, passes?, not-both}
-use Rattle.theory.proofs.SequenceLaws.{run-append, of-sequences, in-sequences, of-depthFirst, in-depthFirst}
+use Rattle.theory.proofs.SequenceLaws.{of-sequences, in-sequences, of-depthFirst, in-depthFirst}
 use Rattle.theory.proofs.OrderLaws.{sequences-ordered, depthFirst-ordered}
 use Rattle.theory.proofs.CheapestLaws.{preferred-trans, least-unique, cheapest-none, cheapest-least}
 use Rattle.theory.proofs.PruningLaws.{in-endsIn, of-plan, cheapest-not-pruned}
-use Rattle.theory.proofs.VisitLaws.{of-allowed, in-allowed, visited-explore-next}
+use Rattle.theory.proofs.VisitLaws.{of-allowed, in-allowed}
 
 -- ── The preference as a test ────────────────────────────────────────────────────────────────────
 
@@ -175,67 +175,3 @@ module _ {A : Type 0} (step : ℕ → A → Option A) (cost : ℕ → ℕ) (m : 
 
           safe : pruned marked p ≡ false
           safe = cheapest-not-pruned step cost m Valid closed marked justified start goal maxMoves maxCost p valid e
-
--- ── The recursion that carries the best plan ─────────────────────────────────────────────────────
-
-module _ {A : Type 0} (step : ℕ → A → Option A) (cost : ℕ → ℕ) (m : ℕ) (may : Sequence → Bool) (start : A) (goal : A → Bool) where
-  best-append : (good : Sequence → Bool) (s t : List Sequence) (c : Option Sequence) → best cost good c (s ++ t) ≡ best cost good (best cost good c s) t
-  best-append good [] t c = refl
-  best-append good (q ∷ s) t c = best-append good s t (cond (good q) (improved cost q c) c)
-
-  best-flat : (good : Sequence → Bool) (f : ℕ → List Sequence) (rs : List ℕ) (c : Option Sequence) → best cost good c (flat f rs) ≡ overRules (λ r c′. best cost good c′ (f r)) rs c
-  best-flat good f [] c = refl
-  best-flat good f (r ∷ rs) c = best-append good (f r) (flat f rs) c ∙ best-flat good f rs (best cost good c (f r))
-
-  abbrev fold : Option Sequence → List Sequence → Option Sequence
-  fold = best cost (reaches step start goal)
-
-  abbrev Folds : ℕ → Type 0
-  Folds n = (q : Sequence) (s : A) (c : Option Sequence) → run step q start ≡ some s → seek step cost m may goal n q s c ≡ fold c (explore step m may n q s)
-
-  seek-child : (n : ℕ) → Folds n → (q : Sequence) (s : A) → run step q start ≡ some s → (r : ℕ) (c : Option Sequence)
-      → enterWith c (may (q ++ (r ∷ []))) (step r s) (λ t. seek step cost m may goal n (q ++ (r ∷ [])) t c)
-      ≡ fold c (enter (may (q ++ (r ∷ []))) (step r s) (explore step m may n (q ++ (r ∷ []))))
-  seek-child n ih q s e r c = go (step r s) refl (may next)
-    where
-      next : Sequence
-      next = q ++ (r ∷ [])
-
-      runIn : run step next start ≡ andThen (step r s) some
-      runIn = run-append step q (r ∷ []) start ∙ ap (λ o. andThen o (run step (r ∷ []))) e
-
-      go : (o : Option A) → step r s ≡ o → (b : Bool) → enterWith c b o (λ t. seek step cost m may goal n next t c) ≡ fold c (enter b o (explore step m may n next))
-      go none p b = refl
-      go (some t) p true = ih next t c (runIn ∙ ap (λ o. andThen o some) p)
-      go (some t) p false = refl
-
-  noted-at : (q : Sequence) (s : A) (c : Option Sequence) → run step q start ≡ some s → noted cost goal q s c ≡ cond (reaches step start goal q) (improved cost q c) c
-  noted-at q s c e = ap (λ o. cond (endsIn goal o) (improved cost q c) c) (sym e)
-
-  -- it is the fold over what the recursion visits
-  pub seek-best : (n : ℕ) (q : Sequence) (s : A) (c : Option Sequence) → run step q start ≡ some s
-      → seek step cost m may goal n q s c ≡ best cost (reaches step start goal) c (explore step m may n q s)
-  seek-best zero q s c e = noted-at q s c e
-  seek-best (suc n) q s c e =
-      ap (overRules visit (numbers m)) (noted-at q s c e)
-      ∙ ap (λ f. overRules f (numbers m) c₁) (fun-ext (λ r. fun-ext (λ c′. seek-child n (seek-best n) q s e r c′)))
-      ∙ sym (best-flat (reaches step start goal) list (numbers m) c₁)
-    where
-      c₁ : Option Sequence
-      c₁ = cond (reaches step start goal q) (improved cost q c) c
-
-      visit : ℕ → Option Sequence → Option Sequence
-      visit r c′ = enterWith c′ (may (q ++ (r ∷ []))) (step r s) (λ t. seek step cost m may goal n (q ++ (r ∷ [])) t c′)
-
-      list : ℕ → List Sequence
-      list r = enter (may (q ++ (r ∷ []))) (step r s) (explore step m may n (q ++ (r ∷ [])))
-
--- the whole search: the recursion that carries the best plan and looks, for one more rule, only at the suffixes of at most n rules
-pub seek-cheapest : {A : Type 0} (step : ℕ → A → Option A) (cost : ℕ → ℕ) (m : ℕ) (Valid : A → Type 0) → Closed step m Valid
-    → (marked : Sequence → Bool) → Justified step cost m Valid marked → (n : ℕ) → ((b : Sequence) → n < length b → marked b ≡ false)
-    → (start : A) → Valid start → (goal : A → Bool) (maxMoves maxCost : ℕ)
-    → seek step cost m (allowedNext cost marked maxCost n) goal maxMoves [] start none ≡ cheapest cost (candidates step cost m start goal maxMoves maxCost)
-seek-cheapest step cost m Valid closed marked justified n short start valid goal maxMoves maxCost =
-    seek-best step cost m (allowedNext cost marked maxCost n) start goal maxMoves [] start none refl
-    ∙ ap (best cost (reaches step start goal) none) (sym (visited-explore-next step cost m marked start maxCost n short maxMoves))
-    ∙ best-cheapest step cost m Valid closed marked justified start valid goal maxMoves maxCost

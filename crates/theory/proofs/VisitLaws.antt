@@ -1,24 +1,24 @@
--- What is visited is closed under prefixes, and the recursion `explore` visits what `visited` lists, in that order; for one more rule it need test only suffixes.
+-- What is visited is closed under prefixes, and the recursion `explore` visits what `visited` lists, in that order; for one more rule it need test only suffixes;
+-- the recursion that carries something along is the fold over what it visits.
 -- Assumes nothing.
 use mathlib.Core.Path.{_≡_, refl, sym, ap, _∙_, ap₂, subst, fun-ext}
 use mathlib.Core.Logic.{_⊎_, inl, inr}
 use mathlib.Core.Bool.{Bool, true, false, not, _&&_, _||_, and-false}
 use mathlib.Core.Option.{Option, some, none}
 use mathlib.Core.List.{List, [], _∷_, _++_, map, map-append, append-assoc, append-nil}
-use mathlib.Core.List.{List·Memᴰ·head, List·Memᴰ·tail, Memᴰ·of-map}
-use Prim.Native.Nat.{ℕ, zero, suc, _+_, _-_, _≤_, _<_, min, zero-le}
+use mathlib.Core.List.{Memᴰ·of-map}
+use Prim.Native.Nat.{ℕ, zero, suc, _+_, _-_, _≤_, _<_, zero-le}
 use native.Mathlib.Omega.{arith}
 use lib.Dec.{leb}
-use lib.ListN.{length, take, drop, length-append, length-drop, take-append-drop}
-use lib.Seq.{drop-at}
+use lib.ListN.{length}
 use borrow.Author.Tests.{not-true, leb-true, leb-false, le-leb}
-use Rattle.theory.specs.Lists.{_∈_, any, keep, flat, isSome}
-use Rattle.theory.specs.Sequences.{Sequence, andThen, run, costOf, numbers, withFirst, depthFirst}
+use Rattle.theory.specs.Lists.{_∈_, any, keep, flat, foldOver, isSome}
+use Rattle.theory.specs.Sequences.{Sequence, andThen, run, costOf, numbers, Numbered, withFirst, depthFirst}
 use Rattle.theory.specs.Pruning.{prefixes, segments, pruned}
 use Rattle.theory.specs.Plans.{allowed, isVisited, visited}
-use Rattle.theory.specs.Recursion.{enter, explore, suffixes, shortSuffixes, last, allowedNext}
-use Rattle.theory.proofs.ListLaws.{of-isSome, here, any-true, true-any, in-keep, of-keep, keep-none, keep-pass, keep-flat, flat-same, map-flat, map-of-map, map-id, any-append, any-keep, and-split, and-join, passes?, same-test, not-both}
-use Rattle.theory.proofs.SequenceLaws.{run-append, run-split, cost-append, of-numbers, in-numbers}
+use Rattle.theory.specs.Recursion.{enter, explore, suffixes, shortSuffixes, allowedNext, enterWith, exploreWith}
+use Rattle.theory.proofs.ListLaws.{of-isSome, keep-none, keep-pass, keep-flat, flat-same, fold-append, map-flat, map-of-map, map-id, any-append, any-keep, and-split, and-join, passes?, not-both}
+use Rattle.theory.proofs.SequenceLaws.{run-append, run-split, cost-append, numbered-append, of-numbers}
 use Rattle.theory.proofs.PruningLaws.{pruned-around}
 
 -- ── What is visited is closed under prefixes ─────────────────────────────────────────────────────
@@ -157,58 +157,23 @@ module _ (marked : Sequence → Bool) where
           go (inl e) = e
           go (inr e) = not-both k (short b (leb-false (length b) n e))
 
--- ── The short suffixes by their lengths ──────────────────────────────────────────────────────────
-
-of-suffixes : (q : Sequence) {b : Sequence} → b ∈ suffixes q → (1 ≤ length b) × ((x : Sequence) × (q ≡ x ++ b))
-of-suffixes [] d = elim d [ ]
-of-suffixes (r ∷ q) {b} (List·Memᴰ·head e) = subst (λ c. (1 ≤ length c) × ((x : Sequence) × ((r ∷ q) ≡ x ++ c))) (sym e) (omega arith, ([], refl))
-of-suffixes (r ∷ q) {b} (List·Memᴰ·tail d) = let w = of-suffixes q d in (w .0, (r ∷ w .1 .0, ap {B = Sequence} (λ v. r ∷ v) (w .1 .1)))
-
-in-suffixes : (x b : Sequence) → 1 ≤ length b → b ∈ suffixes (x ++ b)
-in-suffixes [] [] h = absurd (omega arith)
-in-suffixes [] (r ∷ b) h = here (r ∷ b) (suffixes b)
-in-suffixes (r ∷ x) b h = List·Memᴰ·tail (in-suffixes x b h)
-
--- to look at the suffixes of at most n rules is to look at the last k rules for k = 1, 2 … up to n or the length
-pub short-last : (marked : Sequence → Bool) (n : ℕ) (q : Sequence) → any marked (shortSuffixes n q) ≡ any (λ k. marked (last k q)) (numbers (min n (length q)))
-short-last marked n q = same-test (any marked (shortSuffixes n q)) (any (λ k. marked (last k q)) (numbers (min n (length q)))) down up
-  where
-    down : any marked (shortSuffixes n q) ≡ true → any (λ k. marked (last k q)) (numbers (min n (length q))) ≡ true
-    down h =
-        let w = any-true marked (shortSuffixes n q) h in
-        let b = w .0 in
-        let u = of-keep (λ b. leb (length b) n) (suffixes q) (w .1) in
-        let v = of-suffixes q (u .0) in
-        let x = v .1 .0 in
-        let f = leb-true (length b) n (u .1) in
-        let lq : length q ≡ length x + length b = ap length (v .1 .1) ∙ length-append x b in
-        let g = v .0 in
-        let lx : length x ≡ length q - length b = omega arith in
-        let e : last (length b) q ≡ b = ap (drop (length q - length b)) (v .1 .1) ∙ drop-at x b (length q - length b) lx in
-        true-any (λ k. marked (last k q)) (in-numbers (min n (length q)) (length b) g (omega arith)) (ap marked e ∙ w .2)
-
-    up : any (λ k. marked (last k q)) (numbers (min n (length q))) ≡ true → any marked (shortSuffixes n q) ≡ true
-    up h =
-        let w = any-true (λ k. marked (last k q)) (numbers (min n (length q))) h in
-        let k = w .0 in
-        let f = of-numbers (min n (length q)) (w .1) in
-        let b = last k q in
-        let lb : length b ≡ k = length-drop (length q - k) q ∙ omega arith in
-        let d : b ∈ suffixes q = subst (λ p. b ∈ suffixes p) (take-append-drop (length q - k) q) (in-suffixes (take (length q - k) q) b (omega arith)) in
-        true-any marked (in-keep (λ b. leb (length b) n) d (le-leb (length b) n (omega arith))) (w .2)
-
 -- ── The recursion with the test of one more rule ─────────────────────────────────────────────────
 
 -- two tests that agree on one more rule to what may be visited lead the recursion the same way
-explore-same : {A : Type 0} (step : ℕ → A → Option A) (m : ℕ) (may may′ : Sequence → Bool)
-    → ((q : Sequence) (r : ℕ) → may q ≡ true → may (q ++ (r ∷ [])) ≡ may′ (q ++ (r ∷ [])))
-    → (n : ℕ) (q : Sequence) (s : A) → may q ≡ true → explore step m may n q s ≡ explore step m may′ n q s
-explore-same step m may may′ agree zero q s h = refl
-explore-same {A} step m may may′ agree (suc n) q s h =
+pub explore-same : {A : Type 0} (step : ℕ → A → Option A) (m : ℕ) (may may′ : Sequence → Bool)
+    → ((q : Sequence) (r : ℕ) → Numbered m (q ++ (r ∷ [])) → may q ≡ true → may (q ++ (r ∷ [])) ≡ may′ (q ++ (r ∷ [])))
+    → (n : ℕ) (q : Sequence) (s : A) → Numbered m q → may q ≡ true → explore step m may n q s ≡ explore step m may′ n q s
+explore-same step m may may′ agree zero q s k h = refl
+explore-same {A} step m may may′ agree (suc n) q s k h =
     ap {B = List Sequence} (λ l. q ∷ l)
     (flat-same (visit may) (visit may′) (numbers m)
-    (λ r d. go r (step r s) (may (q ++ (r ∷ []))) refl (explore-same step m may may′ agree n (q ++ (r ∷ []))) ∙ ap (λ b. enter b (step r s) (explore step m may′ n (q ++ (r ∷ [])))) (agree q r h)))
+    (λ r d.
+    go r (step r s) (may (q ++ (r ∷ []))) refl (λ t. explore-same step m may may′ agree n (q ++ (r ∷ [])) t (longer r d))
+    ∙ ap (λ b. enter b (step r s) (explore step m may′ n (q ++ (r ∷ [])))) (agree q r (longer r d) h)))
   where
+    longer : (r : ℕ) → r ∈ numbers m → Numbered m (q ++ (r ∷ []))
+    longer r d = let w = of-numbers m d in numbered-append m q (r ∷ []) k (w .0, w .1, tt)
+
     visit : (Sequence → Bool) → ℕ → List Sequence
     visit f r = enter (f (q ++ (r ∷ []))) (step r s) (explore step m f n (q ++ (r ∷ [])))
 
@@ -225,7 +190,48 @@ pub visited-explore-next : {A : Type 0} (step : ℕ → A → Option A) (cost : 
     → visited step cost m marked start maxMoves maxCost ≡ explore step m (allowedNext cost marked maxCost n) maxMoves [] start
 visited-explore-next step cost m marked start maxCost n short maxMoves =
     visited-explore step cost m marked start maxCost maxMoves
-    ∙ explore-same step m (allowed cost marked maxCost) (allowedNext cost marked maxCost n) agree maxMoves [] start (in-allowed cost marked maxCost [] zero-le refl)
+    ∙ explore-same step m (allowed cost marked maxCost) (allowedNext cost marked maxCost n) (λ q r k. agree q r) maxMoves [] start tt (in-allowed cost marked maxCost [] zero-le refl)
   where
     agree : (q : Sequence) (r : ℕ) → allowed cost marked maxCost q ≡ true → allowed cost marked maxCost (q ++ (r ∷ [])) ≡ allowedNext cost marked maxCost n (q ++ (r ∷ []))
     agree q r h = ap (λ b. leb (costOf cost (q ++ (r ∷ []))) maxCost && not b) (pruned-next-short marked n short q r (of-allowed cost marked maxCost q h .1))
+
+-- ── The recursion that carries something along ───────────────────────────────────────────────────
+
+module _ {A C : Type 0} (step : ℕ → A → Option A) (m : ℕ) (may : Sequence → Bool) (start : A) (note : Sequence → A → C → C) (noteOf : Sequence → C → C)
+    (agree : (q : Sequence) (s : A) (c : C) → run step q start ≡ some s → note q s c ≡ noteOf q c) where
+  fold-flat : (f : ℕ → List Sequence) (rs : List ℕ) (c : C) → foldOver noteOf c (flat f rs) ≡ foldOver (λ r c′. foldOver noteOf c′ (f r)) c rs
+  fold-flat f [] c = refl
+  fold-flat f (r ∷ rs) c = fold-append noteOf (f r) (flat f rs) c ∙ fold-flat f rs (foldOver noteOf c (f r))
+
+  abbrev Folds : ℕ → Type 0
+  Folds n = (q : Sequence) (s : A) (c : C) → run step q start ≡ some s → exploreWith step m may note n q s c ≡ foldOver noteOf c (explore step m may n q s)
+
+  fold-child : (n : ℕ) → Folds n → (q : Sequence) (s : A) → run step q start ≡ some s → (r : ℕ) (c : C)
+      → enterWith c (may (q ++ (r ∷ []))) (step r s) (λ t. exploreWith step m may note n (q ++ (r ∷ [])) t c)
+      ≡ foldOver noteOf c (enter (may (q ++ (r ∷ []))) (step r s) (explore step m may n (q ++ (r ∷ []))))
+  fold-child n ih q s e r c = go (step r s) refl (may next)
+    where
+      next : Sequence
+      next = q ++ (r ∷ [])
+
+      runIn : run step next start ≡ andThen (step r s) some
+      runIn = run-append step q (r ∷ []) start ∙ ap (λ o. andThen o (run step (r ∷ []))) e
+
+      go : (o : Option A) → step r s ≡ o → (b : Bool) → enterWith c b o (λ t. exploreWith step m may note n next t c) ≡ foldOver noteOf c (enter b o (explore step m may n next))
+      go none p b = refl
+      go (some t) p true = ih next t c (runIn ∙ ap (λ o. andThen o some) p)
+      go (some t) p false = refl
+
+  -- it is the fold over what the recursion visits, where the note can be told from the sequence
+  pub explore-fold : (n : ℕ) (q : Sequence) (s : A) (c : C) → run step q start ≡ some s → exploreWith step m may note n q s c ≡ foldOver noteOf c (explore step m may n q s)
+  explore-fold zero q s c e = agree q s c e
+  explore-fold (suc n) q s c e =
+      ap (λ c′. foldOver visit c′ (numbers m)) (agree q s c e)
+      ∙ ap (λ f. foldOver f (noteOf q c) (numbers m)) (fun-ext (λ r. fun-ext (λ c′. fold-child n (explore-fold n) q s e r c′)))
+      ∙ sym (fold-flat list (numbers m) (noteOf q c))
+    where
+      visit : ℕ → C → C
+      visit r c′ = enterWith c′ (may (q ++ (r ∷ []))) (step r s) (λ t. exploreWith step m may note n (q ++ (r ∷ [])) t c′)
+
+      list : ℕ → List Sequence
+      list r = enter (may (q ++ (r ∷ []))) (step r s) (explore step m may n (q ++ (r ∷ [])))

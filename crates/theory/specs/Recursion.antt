@@ -1,11 +1,11 @@
--- How a recursive search may go about it. No promise of a public call mentions this file; the laws in proofs/ equate it with `visited` and `candidates`.
+-- How a recursive search may go about it. No promise of a public call mentions this file; the laws in proofs/ equate it with `visited` and `cheapest`.
 use mathlib.Core.Bool.{Bool, true, false, not, cond, _&&_, _||_}
 use mathlib.Core.Option.{Option, some, none}
 use mathlib.Core.List.{List, [], _∷_, _++_}
 use Prim.Native.Nat.{ℕ, zero, suc, _-_}
 use lib.Dec.{leb, ltb, eqb}
 use lib.ListN.{length, drop}
-use Rattle.theory.specs.Lists.{any, keep, flat}
+use Rattle.theory.specs.Lists.{any, keep, flat, foldOver}
 use Rattle.theory.specs.Sequences.{Sequence, costOf, numbers}
 
 -- ── The visited sequences ────────────────────────────────────────────────────────────────────────
@@ -52,28 +52,24 @@ abbrev pub improved : (ℕ → ℕ) → Sequence → Option Sequence → Option 
 improved cost q none = some q
 improved cost q (some p) = cond (better cost q p) (some q) (some p)
 
--- the best plan so far after the sequences of a list, of which those count that pass the test
+-- the best plan so far after q, if q passes the test
+abbrev pub bestAfter : (ℕ → ℕ) → (Sequence → Bool) → Sequence → Option Sequence → Option Sequence
+bestAfter cost good q c = cond (good q) (improved cost q c) c
+
+-- the best plan so far after the sequences of a list
 abbrev pub best : (ℕ → ℕ) → (Sequence → Bool) → Option Sequence → List Sequence → Option Sequence
-best cost good c [] = c
-best cost good c (q ∷ l) = best cost good (cond (good q) (improved cost q c) c) l
+best cost good = foldOver (bestAfter cost good)
 
--- the best plan so far after q, which has led to the state s
-abbrev pub noted : {A : Type 0} → (ℕ → ℕ) → (A → Bool) → Sequence → A → Option Sequence → Option Sequence
-noted cost goal q s c = cond (goal s) (improved cost q c) c
-
--- the best plan so far after a list of rules, each of which changes it by f
-abbrev pub overRules : (ℕ → Option Sequence → Option Sequence) → List ℕ → Option Sequence → Option Sequence
-overRules f [] c = c
-overRules f (r ∷ rs) c = overRules f rs (f r c)
+-- ── The recursion that carries something along ───────────────────────────────────────────────────
 
 -- go on from the state that a rule leads to, where there is one and the test passes; else keep c
-abbrev pub enterWith : {A : Type 0} → Option Sequence → Bool → Option A → (A → Option Sequence) → Option Sequence
+abbrev pub enterWith : {A C : Type 0} → C → Bool → Option A → (A → C) → C
 enterWith c b none visit = c
 enterWith c true (some t) visit = visit t
 enterWith c false (some t) visit = c
 
--- the search as a recursion that carries the best plan so far
-abbrev pub seek : {A : Type 0} → (ℕ → A → Option A) → (ℕ → ℕ) → ℕ → (Sequence → Bool) → (A → Bool) → ℕ → Sequence → A → Option Sequence → Option Sequence
-seek step cost m may goal zero q s c = noted cost goal q s c
-seek step cost m may goal (suc n) q s c =
-    overRules (λ r c′. enterWith c′ (may (q ++ (r ∷ []))) (step r s) (λ t. seek step cost m may goal n (q ++ (r ∷ [])) t c′)) (numbers m) (noted cost goal q s c)
+-- the search as a recursion that carries c along: `note` says what a sequence, which has led to a state, makes of it
+abbrev pub exploreWith : {A C : Type 0} → (ℕ → A → Option A) → ℕ → (Sequence → Bool) → (Sequence → A → C → C) → ℕ → Sequence → A → C → C
+exploreWith step m may note zero q s c = note q s c
+exploreWith step m may note (suc n) q s c =
+    foldOver (λ r c′. enterWith c′ (may (q ++ (r ∷ []))) (step r s) (λ t. exploreWith step m may note n (q ++ (r ∷ [])) t c′)) (note q s c) (numbers m)
