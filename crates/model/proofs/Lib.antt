@@ -1,6 +1,7 @@
 pub mod StateLaws
 pub mod RedundancyLaws
 pub mod RefusalLaws
+pub mod CauseLaws
 pub mod LoopLaws
 pub mod ValidityLaws
 pub mod Shapes

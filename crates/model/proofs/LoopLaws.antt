@@ -23,6 +23,10 @@ left-more i n h = let e : n - i ≡ suc (n - (i + 1)) = omega arith in rw (e, ad
 pub left-none : (i n : ℕ) → n ≤ i → numbersFrom i (n - i) ≡ []
 left-none i n h = let e : n - i ≡ 0 = omega arith in rw e
 
+-- the rules that are left at place k, by their numbers: that place's first, where there is one
+pub rules-left : (k m : ℕ) → k < m → numbersFrom (k + 1) (m - k) ≡ (k + 1) ∷ numbersFrom (k + 1 + 1) (m - (k + 1))
+rules-left k m h = let e : m - k ≡ suc (m - (k + 1)) = omega arith in rw (e, add-one (k + 1))
+
 module _ (p : ℕ → Bool) (i n : ℕ) (X : Bool) where
   pub every-go : every p (numbersFrom i (n - i)) ≡ X → i < n → p i ≡ true → every p (numbersFrom (i + 1) (n - (i + 1))) ≡ X
   every-go inv h t = sym (rw (left-more i n h, t)) ∙ inv

@@ -7,7 +7,6 @@ use mathlib.Core.Option.{Option, some}
 use mathlib.Core.List.{List, [], _∷_, _++_, List·Memᴰ·tail}
 use Prim.Native.Nat.{ℕ, zero, suc, _+_, _*_, _-_, _≤_, _<_}
 use native.Mathlib.Omega.{arith}
-use native.Mathlib.Numerals.{add-one}
 use lib.Dec.{leb}
 use lib.ListN.{length, getD}
 use borrow.Author.Tests.{leb-true, leb-false, le-leb, lt-leb}
@@ -23,6 +22,7 @@ use Rattle.model.specs.declared.Rule.{Rule}
 use Rattle.model.specs.declared.RuleSet.{RuleSet}
 use Rattle.macros.specs.Composition.{Lines}
 use Rattle.macros.specs.Redundancy.{endsIn, covers}
+use Rattle.model.proofs.LoopLaws.{rules-left}
 use Rattle.tables.specs.Table.{sequenceCount, kept}
 use Rattle.pruning.specs.Witnesses.{firstBehind, serves}
 use Rattle.tables.proofs.CountLaws.{behind-bound, count-bound}
@@ -113,10 +113,6 @@ unfolding ruleAt
 placed-number set k = let e : k ≡ k + 1 - 1 = omega arith in ap (λ j. getD (set .rules) j noRule) e
 
 -- ── The loop over the rules of `with_more` ───────────────────────────────────────────────────────
-
--- the rules that are left at place k: that place's first, where there is one
-rules-left : (k m : ℕ) → k < m → numbersFrom (k + 1) (m - k) ≡ (k + 1) ∷ numbersFrom (k + 1 + 1) (m - (k + 1))
-rules-left k m h = let e : m - k ≡ suc (m - (k + 1)) = omega arith in rw (e, add-one (k + 1))
 
 module _ (set : RuleSet) (entries target : List ℕ) (left index n : ℕ) where
   abbrev m : ℕ
