@@ -15,11 +15,11 @@ use Rattle.macros.specs.Composition.{ownVariables, emptyLines, replaced, clash,
 use Rattle.macros.specs.Answers.{macroCauses, macroAnswer}
 use Rattle.tables.specs.Table.{tableEntries, sequenceAt, entryAt, marked, builtEntry, builtTable, entryJustified, accepted}
 use Rattle.tables.specs.Answers.{tableCauses, buildOutcome, builtBuffer, checkCauses, checkOutcome}
-use Rattle.search.specs.Query.{Query, startFits, goalFits, meetsGoal, visitedBy, plansFor}
-use Rattle.search.specs.Searched.{queryCauses, cheapestPlan, searchCauses, shownPlan, searchedWith, searched}
-use Rattle.search.specs.PlanPart.{planPart}
-use Rattle.search.specs.Tallies.{talliedOf}
-use Rattle.search.specs.declared.Tally.{Tally}
+use Rattle.queries.specs.Query.{Query, startFits, goalFits, meetsGoal, visitedBy, plansFor}
+use Rattle.queries.specs.Searched.{queryCauses, cheapestPlan, searchCauses, shownPlan, searchedWith, searched}
+use Rattle.queries.specs.PlanPart.{planPart}
+use Rattle.queries.specs.Tallies.{talliedOf}
+use Rattle.queries.specs.declared.Tally.{Tally}
 use Rattle.planner.specs.Packed.{packed, textRefused, searchedText, packedSearch}
 use Rattle.report.specs.Listing.{markedIndices, markLines, listingOf, listing}
 use Rattle.cases.proofs.Worked.{setOf, fileE, E, Question, search, macroOf, compose, build, check, list, enter, Reply, composes, vectors, builds, checks, lists, packs, reply, Row, told, keptBytes, markBytes}

@@ -17,8 +17,8 @@ use Rattle.macros.specs.Answers.{macroCauses, macroAnswer}
 use Rattle.macros.specs.declared.MacroAnswer.{MacroAnswer}
 use Rattle.tables.specs.Table.{tableEntries, sequenceAt, entryAt, marked, builtEntry, builtTable, entryJustified, accepted}
 use Rattle.tables.specs.Answers.{tableCauses, buildOutcome, builtBuffer, checkCauses, checkOutcome}
-use Rattle.search.specs.Query.{Query, startFits, goalFits, meetsGoal, visitedBy, plansFor}
-use Rattle.search.specs.Searched.{Searched, queryCauses, cheapestPlan, searchCauses, shownPlan, searchedWith, searched}
+use Rattle.queries.specs.Query.{Query, startFits, goalFits, meetsGoal, visitedBy, plansFor}
+use Rattle.queries.specs.Searched.{Searched, queryCauses, cheapestPlan, searchCauses, shownPlan, searchedWith, searched}
 use Rattle.planner.specs.Packed.{searchedText, packedSearch}
 use Rattle.report.specs.Listing.{listing}
 

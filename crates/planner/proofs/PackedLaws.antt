@@ -11,10 +11,10 @@ use lib.ListN.{replicate}
 use Rattle.model.specs.declared.RuleSet.{RuleSet}
 use Rattle.rules.specs.Reading.{reading}
 use Rattle.rules.proofs.RefusedLaws.{reading-bound}
-use Rattle.search.specs.Query.{Query}
-use Rattle.search.specs.Searched.{Searched, searched, noMove}
-use Rattle.search.specs.declared.Answer.{Answer}
-use Rattle.search.proofs.AnswerLaws.{outcome-bound, cost-bound, length-bound, steps-bound, searched-blank}
+use Rattle.queries.specs.Query.{Query}
+use Rattle.queries.specs.Searched.{Searched, searched, noMove}
+use Rattle.queries.specs.declared.Answer.{Answer}
+use Rattle.queries.proofs.AnswerLaws.{outcome-bound, cost-bound, length-bound, steps-bound, searched-blank}
 use Rattle.planner.specs.Packed.{packed, textRefused, searchedText}
 
 -- the fields of an answer fit one byte, 16 bits, one byte and 32 bits

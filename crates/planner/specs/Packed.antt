@@ -5,9 +5,9 @@ use Prim.Native.Nat.{ℕ, _+_, _*_}
 use lib.Dec.{eqb}
 use lib.ListN.{length, replicate}
 use Rattle.rules.specs.Reading.{reading}
-use Rattle.search.specs.Query.{Query}
-use Rattle.search.specs.Searched.{Searched, searched, noMove}
-use Rattle.search.specs.declared.Answer.{Answer}
+use Rattle.queries.specs.Query.{Query}
+use Rattle.queries.specs.Searched.{Searched, searched, noMove}
+use Rattle.queries.specs.declared.Answer.{Answer}
 
 -- the outcome in the low byte, the length in the next, the cost in the next 16 bits, the steps in the top 32
 unfoldable pub packed : Answer → ℕ

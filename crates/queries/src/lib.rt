@@ -1,4 +1,4 @@
-// The search, the plan handed back and the tally: types, definitions and laws; the calls are to come.
+// Queries: what a search is asked and answers, the plan handed back and the tally. Types, definitions and laws; the code is in `search`.
 
 // What a search gives beside the plan buffer.
 pub struct Answer {

@@ -26,6 +26,11 @@ pub record Query : Type 0 where
   pub stepLimit : ℕ
   pub planSize : ℕ
 
+-- the query of these parts
+abbrev pub asked : ℕ → List ℕ → List ℕ → List ℕ → ℕ → ℕ → ℕ → ℕ → Query
+asked reach table start goal maxMoves maxCost stepLimit planSize =
+    record { reach = reach; table = table; start = start; goal = goal; maxMoves = maxMoves; maxCost = maxCost; stepLimit = stepLimit; planSize = planSize }
+
 -- the start has one byte for each position, each below its size
 unfoldable pub startFits : RuleSet → List ℕ → Bool
 startFits set start = eqb (length start) (set .positions) && every (λ i. ltb (getD start i 0) (getD (set .sizes) i 0)) (numbersFrom 0 (set .positions))
@@ -59,6 +64,14 @@ plansFor set query =
     candidates (stepOf set) (ruleCost set) (set .count) (startState query) (meetsGoal (query .goal)) (query .maxMoves) (query .maxCost)
 
 -- ── The same as statements ───────────────────────────────────────────────────────────────────────
+
+-- the start has one byte for each position, each below its size
+abbrev pub StartFits : RuleSet → List ℕ → Type 0
+StartFits set start = (length start ≡ set .positions) × ((i : ℕ) → i < set .positions → getD start i 0 < getD (set .sizes) i 0)
+
+-- the goal likewise, but for bytes that are 255
+abbrev pub GoalFits : RuleSet → List ℕ → Type 0
+GoalFits set goal = (length goal ≡ set .positions) × ((i : ℕ) → i < set .positions → (getD goal i 0 ≡ anyValue → ⊥) → getD goal i 0 < getD (set .sizes) i 0)
 
 -- a rule sequence that can be run from the start, within both bounds
 pub record RunsWithin (set : RuleSet) (query : Query) (q : Sequence) : Type 0 where

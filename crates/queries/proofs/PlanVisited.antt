@@ -12,7 +12,8 @@ use lib.ListN.{length, getD, replicate, length-append, length-replicate, List·g
 use borrow.Author.Tests.{not-false}
 use Rattle.theory.specs.Lists.{_∈_}
 use Rattle.theory.specs.Sequences.{Sequence}
-use Rattle.theory.proofs.TestLaws.{below?, ltb-iff, eqb-iff, and-iff, every-below-iff}
+use Rattle.theory.proofs.ListLaws.{zeros-at}
+use Rattle.theory.proofs.TestLaws.{below?}
 use Rattle.theory.proofs.PruningLaws.{cheapest-not-pruned}
 use Rattle.model.specs.States.{width}
 use Rattle.model.specs.Rules.{stepOf, ruleCost, StateOf}
@@ -23,17 +24,12 @@ use Rattle.model.proofs.ValidityLaws.{valid-iff, valid-closed}
 use Rattle.tables.specs.Table.{marked, accepted}
 use Rattle.tables.specs.Answers.{tableCauses}
 use Rattle.tables.proofs.TableLaws.{accepted-justified}
-use Rattle.search.specs.Query.{Query, startFits, startState, meetsGoal, visitedBy, plansFor}
-use Rattle.search.specs.Searched.{queryCauses, cheapestPlan, NotRefused}
-use Rattle.search.proofs.VisitedLaws.{unpruned-iff, visited-iff}
-use Rattle.search.proofs.Demand.{cheapest-leads}
+use Rattle.queries.specs.Query.{Query, startFits, startState, meetsGoal, visitedBy, plansFor, StartFits}
+use Rattle.queries.specs.Searched.{queryCauses, cheapestPlan, NotRefused}
+use Rattle.queries.proofs.VisitedLaws.{start-fits-iff, unpruned-iff, visited-iff}
+use Rattle.queries.proofs.Demand.{cheapest-leads}
 
 -- padding by 0 changes no element that is read with the default 0
-zeros-at : (n i : ℕ) → getD {A = ℕ} (replicate n 0) i 0 ≡ 0
-zeros-at zero i = refl
-zeros-at (suc n) zero = refl
-zeros-at (suc n) (suc i) = zeros-at n i
-
 padded-at : (l : List ℕ) (n i : ℕ) → getD (l ++ replicate n 0) i 0 ≡ getD l i 0
 padded-at [] n i = zeros-at n i
 padded-at (x ∷ l) n zero = refl
@@ -42,11 +38,10 @@ padded-at (x ∷ l) n (suc i) = padded-at l n i
 module _ (set : RuleSet) (query : Query) where
   -- a start that fits is a state of the sizes
   pub start-state : Valid set → startFits set (query .start) ≡ true → StateOf set (startState query)
-  unfolding startFits
   start-state v e = (size, below)
     where
-      fits : (length (query .start) ≡ set .positions) × ((i : ℕ) → i < set .positions → getD (query .start) i 0 < getD (set .sizes) i 0)
-      fits = and-iff _ _ (eqb-iff (length (query .start)) (set .positions)) (every-below-iff _ _ (λ i. ltb-iff (getD (query .start) i 0) (getD (set .sizes) i 0)) (set .positions)) .0 e
+      fits : StartFits set (query .start)
+      fits = start-fits-iff set (query .start) .0 e
 
       size : length (startState query) ≡ 16
       size = omega (arith, length-append (query .start) (replicate (16 - length (query .start)) 0), length-replicate {A = ℕ} (16 - length (query .start)) 0, fits .0, v .positionLimits)

@@ -2,4 +2,6 @@ pub mod VisitedLaws
 pub mod Demand
 pub mod PlanVisited
 pub mod AnswerLaws
+pub mod MeaningLaws
+pub mod OutcomeLaws
 pub mod TallyLaws

@@ -6,8 +6,8 @@ use Prim.Native.Nat.{ℕ}
 use native.Mathlib.Omega.{arith}
 use lib.Dec.{eqb, lit<}
 use borrow.Author.Tests.{eqb-true}
-use Rattle.search.specs.Tallies.{raised, raisedIf, talliedOf, OneRaised}
-use Rattle.search.specs.declared.Tally.{Tally}
+use Rattle.queries.specs.Tallies.{raised, raisedIf, talliedOf, OneRaised}
+use Rattle.queries.specs.declared.Tally.{Tally}
 
 pub one-raised : (tally : Tally) (outcome steps : ℕ) → OneRaised tally (talliedOf tally outcome steps)
 unfolding talliedOf

@@ -6,9 +6,9 @@ use Prim.Native.Nat.{ℕ, _+_, _<_, min}
 use lib.Dec.{eqb}
 use lib.ListN.{getD, set as replace}
 use Rattle.model.specs.declared.RuleSet.{RuleSet}
-use Rattle.search.specs.Query.{Query}
-use Rattle.search.specs.Searched.{isAnswer, Searched, searched}
-use Rattle.search.specs.declared.Tally.{Tally}
+use Rattle.queries.specs.Query.{Query}
+use Rattle.queries.specs.Searched.{isAnswer, Searched, searched}
+use Rattle.queries.specs.declared.Tally.{Tally}
 
 -- the top value of a 64-bit count
 abbrev pub top : ℕ

@@ -21,15 +21,15 @@ use Rattle.model.specs.declared.RuleSet.{RuleSet}
 use Rattle.model.proofs.RefusalLaws.{no-refusal-iff, refusal-at-most}
 use Rattle.model.proofs.ValidityLaws.{valid-iff, valid-cost}
 use Rattle.tables.specs.Answers.{tableCauses}
-use Rattle.search.specs.Query.{Query, visitedBy}
-use Rattle.search.specs.Searched.{queryCauses, cheapestPlan, searchCauses, isAnswer, planOf, shownPlan, noMove, searchedWith, searched}
-use Rattle.search.proofs.Demand.{blank-buffer, cheapest-leads}
+use Rattle.queries.specs.Query.{Query, visitedBy}
+use Rattle.queries.specs.Searched.{queryCauses, cheapestPlan, searchCauses, isAnswer, planOf, shownPlan, noMove, searchedWith, searched}
+use Rattle.queries.proofs.Demand.{blank-buffer, cheapest-leads}
 
 module _ (set : RuleSet) (query : Query) where
   abbrev outcome : ℕ
   outcome = firstRefusal (searchCauses set query)
 
-  search-numbers : NonZero (searchCauses set query)
+  pub search-numbers : NonZero (searchCauses set query)
   unfolding searchCauses queryCauses tableCauses
   search-numbers =
       (λ e. omega arith, (λ e. omega arith, (λ e. omega arith, (λ e. omega arith, (λ e. omega arith, (λ e. omega arith, (λ e. omega arith, (λ e. omega arith, (λ e. omega arith, (λ e. omega arith, tt))))))))))

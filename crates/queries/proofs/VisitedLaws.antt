@@ -15,16 +15,43 @@ use Rattle.theory.proofs.ListLaws.{never-true, of-isSome, and-split, and-join, 
 use Rattle.theory.proofs.SequenceLaws.{of-sequences, in-sequences, of-depthFirst, in-depthFirst}
 use Rattle.theory.proofs.OrderLaws.{sequences-ordered, depthFirst-distinct}
 use Rattle.theory.proofs.PruningLaws.{pruned-segment, segment-pruned, of-plan, in-plan}
-use Rattle.theory.proofs.TestLaws.{eqb-iff, unless-iff, every-below-iff}
+use Rattle.theory.proofs.TestLaws.{ltb-iff, eqb-iff, and-iff, unless-iff, every-below-iff}
 use Rattle.theory.proofs.VisitLaws.{of-allowed, in-allowed}
 use Rattle.model.specs.States.{State}
 use Rattle.model.specs.Rules.{stepOf, ruleCost, runIn, sequenceCost}
 use Rattle.model.specs.declared.RuleSet.{RuleSet}
 use Rattle.tables.specs.Table.{marked}
 use Rattle.tables.proofs.TableLaws.{marked-iff}
-use Rattle.search.specs.Query.{Query, startState, anyValue, meetsGoal, visitedBy, plansFor, RunsWithin, MeetsGoal, LeadsToGoal, Unpruned}
+use Rattle.queries.specs.Query.{
+  Query,
+  startFits,
+  anyValue,
+  goalFits,
+  startState,
+  meetsGoal,
+  visitedBy,
+  plansFor,
+  StartFits,
+  GoalFits,
+  RunsWithin,
+  MeetsGoal,
+  LeadsToGoal,
+  Unpruned,
+}
 
--- the test of the goal is the statement
+-- the tests of a query's start and goal are the statements
+pub start-fits-iff : (set : RuleSet) (start : List ℕ) → (startFits set start ≡ true) ↔ StartFits set start
+unfolding startFits
+start-fits-iff set start =
+    and-iff _ _ (eqb-iff (length start) (set .positions)) (every-below-iff _ _ (λ i. ltb-iff (getD start i 0) (getD (set .sizes) i 0)) (set .positions))
+
+pub goal-fits-iff : (set : RuleSet) (goal : List ℕ) → (goalFits set goal ≡ true) ↔ GoalFits set goal
+unfolding goalFits
+goal-fits-iff set goal =
+    and-iff _ _ (eqb-iff (length goal) (set .positions))
+    (every-below-iff _ _ (λ i. unless-iff _ _ (eqb-iff (getD goal i 0) anyValue) (ltb-iff (getD goal i 0) (getD (set .sizes) i 0))) (set .positions))
+
+-- and so is the test of a state that meets the goal
 pub meetsGoal-iff : (goal : List ℕ) (s : State) → (meetsGoal goal s ≡ true) ↔ MeetsGoal goal s
 unfolding meetsGoal
 meetsGoal-iff goal s = every-below-iff _ _ (λ i. unless-iff _ _ (eqb-iff (getD goal i 0) anyValue) (eqb-iff (getD s i 0) (getD goal i 0))) (length goal)

@@ -4,7 +4,7 @@ use mathlib.Core.Path.{_≡_, refl, sym, ap, _∙_, subst}
 use mathlib.Core.Logic.{_⊎_, inl, inr}
 use mathlib.Core.Bool.{Bool, true, false, not}
 use mathlib.Core.Option.{Option, some, none}
-use mathlib.Core.List.{List, [], _∷_, _++_}
+use mathlib.Core.List.{List, [], _∷_}
 use mathlib.Core.List.{List·Memᴰ·not-nil}
 use Prim.Native.Nat.{ℕ, _-_, _≤_, _<_}
 use native.Mathlib.Omega.{arith}
@@ -20,17 +20,21 @@ use Rattle.model.specs.Rules.{ruleCost, sequenceCost}
 use Rattle.model.specs.declared.RuleSet.{RuleSet}
 use Rattle.model.proofs.RefusalLaws.{no-refusal-iff, refusal-append}
 use Rattle.tables.specs.Answers.{tableCauses}
-use Rattle.search.specs.Query.{Query, visitedBy, plansFor, LeadsToGoal}
-use Rattle.search.specs.Searched.{queryCauses, cheapestPlan, searchCauses, shownPlan, planOf, noMove, searchedWith, searched, NotRefused, Demand3}
-use Rattle.search.proofs.VisitedLaws.{visited-iff, visited-once, plans-iff, plans-ordered}
+use Rattle.queries.specs.Query.{Query, visitedBy, plansFor, LeadsToGoal}
+use Rattle.queries.specs.Searched.{queryCauses, cheapestPlan, searchCauses, shownPlan, planOf, noMove, searchedWith, searched, NotRefused, Demand3}
+use Rattle.queries.proofs.VisitedLaws.{visited-iff, visited-once, plans-iff, plans-ordered}
 
-query-numbers : (set : RuleSet) (query : Query) → NonZero (queryCauses set query)
+pub query-numbers : (set : RuleSet) (query : Query) → NonZero (queryCauses set query)
 unfolding queryCauses tableCauses
 query-numbers set query = (λ e. omega arith, (λ e. omega arith, (λ e. omega arith, (λ e. omega arith, (λ e. omega arith, (λ e. omega arith, (λ e. omega arith, (λ e. omega arith, tt))))))))
 
 -- a buffer with no plan in it
 pub blank-buffer : (size : ℕ) → padded size noMove [] ≡ replicate size noMove
 blank-buffer size = let e : size - 0 ≡ size = omega arith in ap (λ n. replicate n noMove) e
+
+-- what is told of a query that is not refused, if it gives no plan: more sequences to visit than the step limit; no plan
+abbrev pub ends : Bool → Option Sequence → List Cause
+ends above plan = (16, above) ∷ (15, not (isSome plan)) ∷ []
 
 module _ (set : RuleSet) (query : Query) where
   abbrev count : ℕ
@@ -46,25 +50,28 @@ module _ (set : RuleSet) (query : Query) where
   abbrev Solved : ℕ → Type 0
   Solved outcome = (count ≤ query .stepLimit) × ((p : Sequence) × (cheapestPlan set query ≡ some p)) × (outcome ≡ 0)
 
-  ways : firstRefusal (queryCauses set query) ≡ 0 → Limited (firstRefusal (searchCauses set query)) ⊎ (Unsolvable (firstRefusal (searchCauses set query)) ⊎ Solved (firstRefusal (searchCauses set query)))
-  unfolding searchCauses
-  ways h = byCount (ltb (query .stepLimit) count) refl (cheapestPlan set query) refl
-    where
-      last : List Cause
-      last = (16, ltb (query .stepLimit) count) ∷ (15, not (isSome (cheapestPlan set query))) ∷ []
+  abbrev outcome : ℕ
+  outcome = firstRefusal (searchCauses set query)
 
-      outcome : ℕ
-      outcome = firstRefusal (queryCauses set query ++ last)
+  module _ (h : firstRefusal (queryCauses set query) ≡ 0) where
+    begins : outcome ≡ firstRefusal (ends (ltb (query .stepLimit) count) (cheapestPlan set query))
+    unfolding searchCauses
+    begins = refusal-append (queryCauses set query) (ends (ltb (query .stepLimit) count) (cheapestPlan set query)) (query-numbers set query) h
 
-      begins : outcome ≡ firstRefusal last
-      begins = refusal-append (queryCauses set query) last (query-numbers set query) h
+    pub limited-outcome : ltb (query .stepLimit) count ≡ true → outcome ≡ 16
+    limited-outcome e = begins ∙ ap (λ b. firstRefusal (ends b (cheapestPlan set query))) e
 
-      byCount : (b : Bool) → ltb (query .stepLimit) count ≡ b → (o : Option Sequence) → cheapestPlan set query ≡ o → Limited outcome ⊎ (Unsolvable outcome ⊎ Solved outcome)
-      byCount true e o k = inl (ltb-true (query .stepLimit) count e, begins ∙ ap (λ b. firstRefusal ((16, b) ∷ (15, not (isSome (cheapestPlan set query))) ∷ [])) e)
-      byCount false e none k =
-          inr (inl (ltb-false (query .stepLimit) count e, k, begins ∙ ap (λ b. firstRefusal ((16, b) ∷ (15, not (isSome (cheapestPlan set query))) ∷ [])) e ∙ ap (λ p. firstRefusal ((15, not (isSome p)) ∷ [])) k))
-      byCount false e (some p) k =
-          inr (inr (ltb-false (query .stepLimit) count e, (p, k), begins ∙ ap (λ b. firstRefusal ((16, b) ∷ (15, not (isSome (cheapestPlan set query))) ∷ [])) e ∙ ap (λ p. firstRefusal ((15, not (isSome p)) ∷ [])) k))
+    -- the limit is not exceeded
+    pub unlimited-outcome : ltb (query .stepLimit) count ≡ false → (o : Option Sequence) → cheapestPlan set query ≡ o → outcome ≡ firstRefusal (ends false o)
+    unlimited-outcome e o k = begins ∙ ap (λ b. firstRefusal (ends b (cheapestPlan set query))) e ∙ ap (λ p. firstRefusal (ends false p)) k
+
+    ways : Limited outcome ⊎ (Unsolvable outcome ⊎ Solved outcome)
+    ways = byCount (ltb (query .stepLimit) count) refl (cheapestPlan set query) refl
+      where
+        byCount : (b : Bool) → ltb (query .stepLimit) count ≡ b → (o : Option Sequence) → cheapestPlan set query ≡ o → Limited outcome ⊎ (Unsolvable outcome ⊎ Solved outcome)
+        byCount true e o k = inl (ltb-true (query .stepLimit) count e, limited-outcome e)
+        byCount false e none k = inr (inl (ltb-false (query .stepLimit) count e, k, unlimited-outcome e none k))
+        byCount false e (some p) k = inr (inr (ltb-false (query .stepLimit) count e, (p, k), unlimited-outcome e (some p) k))
 
   -- the cheapest plan leads to the goal, and is preferred to every other sequence that does
   pub cheapest-leads : (p : Sequence) → cheapestPlan set query ≡ some p → LeadsToGoal set query p × ((q : Sequence) → LeadsToGoal set query q → (q ≡ p) ⊎ Preferred (ruleCost set) p q)
@@ -74,18 +81,19 @@ module _ (set : RuleSet) (query : Query) where
       (plans-iff set query p .0 (least .0), λ q h. least .1 q (plans-iff set query q .1 h))
 
   -- where there is no cheapest plan, no sequence leads to the goal
-  none-leads : cheapestPlan set query ≡ none → (q : Sequence) → LeadsToGoal set query q → ⊥
+  pub none-leads : cheapestPlan set query ≡ none → (q : Sequence) → LeadsToGoal set query q → ⊥
   unfolding cheapestPlan
   none-leads e q h = List·Memᴰ·not-nil (subst (λ l. q ∈ l) (cheapest-none (ruleCost set) (plansFor set query) e) (plans-iff set query q .1 h))
 
-  shown-plan : (p : Sequence) → cheapestPlan set query ≡ some p → shownPlan set query 0 ≡ p
+  -- the cheapest plan is the plan shown
+  pub shown-plan : (p : Sequence) → cheapestPlan set query ≡ some p → shownPlan set query 0 ≡ p
   unfolding shownPlan
   shown-plan p e = ap planOf e
 
   -- demand 3: what holds of the answer of every query that is not refused
   pub demand-3 : NotRefused set query → Demand3 set query (searched set query)
   unfolding searched searchedWith shownPlan sequenceCost
-  demand-3 h = byWay (firstRefusal (searchCauses set query)) (ways (no-refusal-iff (queryCauses set query) (query-numbers set query) .1 h))
+  demand-3 h = byWay outcome (ways (no-refusal-iff (queryCauses set query) (query-numbers set query) .1 h))
     where
       Holds : ℕ → Type 0
       Holds outcome = Demand3 set query (searchedWith set query outcome)
@@ -100,7 +108,6 @@ module _ (set : RuleSet) (query : Query) where
             noPlan = λ n. absurd (n refl);
             planFound = λ n. absurd (n refl);
             cheapestShown = λ e. absurd (omega arith);
-            blank = λ _. (refl, refl, blank-buffer (query .planSize));
           }
 
       unsolvable : count ≤ query .stepLimit → cheapestPlan set query ≡ none → Holds 15
@@ -113,7 +120,6 @@ module _ (set : RuleSet) (query : Query) where
             noPlan = λ _. (λ _. none-leads e, λ _. refl);
             planFound = λ _ n. absurd (n refl);
             cheapestShown = λ k. absurd (omega arith);
-            blank = λ _. (refl, refl, blank-buffer (query .planSize));
           }
 
       solved : count ≤ query .stepLimit → (p : Sequence) → cheapestPlan set query ≡ some p → Holds 0
@@ -128,7 +134,6 @@ module _ (set : RuleSet) (query : Query) where
             noPlan = λ _. (λ k. absurd (omega arith), λ n. absurd (n p (leads .0)));
             planFound = λ _ _. refl;
             cheapestShown = λ _. (p, leads .0, ap (sequenceCost set) shown, ap length shown, ap (padded (query .planSize) noMove) shown, leads .1);
-            blank = λ n. absurd (n refl);
           }
 
       byWay : (outcome : ℕ) → Limited outcome ⊎ (Unsolvable outcome ⊎ Solved outcome) → Holds outcome

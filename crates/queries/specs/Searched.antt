@@ -1,10 +1,10 @@
 -- What a search answers: demand 3. Once the query is not refused, the answer speaks of all rule sequences, and of the table only through the number of unpruned ones.
 use mathlib.Core.Path.{_≡_}
-use mathlib.Core.Logic.{_⊎_, _↔_}
+use mathlib.Core.Logic.{_⊎_, _↔_, _≢_}
 use mathlib.Core.Bool.{Bool, not, cond}
 use mathlib.Core.Option.{Option, some, none}
 use mathlib.Core.List.{List, [], _∷_, _++_}
-use Prim.Native.Nat.{ℕ, min, _<_}
+use Prim.Native.Nat.{ℕ, min, _*_, _≤_, _<_}
 use lib.Dec.{ltb, eqb}
 use lib.ListN.{length, replicate}
 use Rattle.theory.specs.Lists.{_∈_, any, isSome, padded, Pairwise}
@@ -12,11 +12,12 @@ use Rattle.theory.specs.Sequences.{Sequence}
 use Rattle.theory.specs.Plans.{cheapest, Preferred}
 use Rattle.model.specs.Refusals.{Cause, firstRefusal, NoneHolds}
 use Rattle.model.specs.Rules.{ruleCost, sequenceCost}
+use Rattle.model.specs.Validity.{Valid}
 use Rattle.model.specs.declared.RuleSet.{RuleSet}
-use Rattle.tables.specs.Table.{accepted}
-use Rattle.tables.specs.Answers.{tableCauses}
-use Rattle.search.specs.Query.{Query, startFits, goalFits, visitedBy, plansFor, RunsWithin, LeadsToGoal, Unpruned}
-use Rattle.search.specs.declared.Answer.{Answer}
+use Rattle.tables.specs.Table.{tableEntries, accepted, Accepted}
+use Rattle.tables.specs.Answers.{tableCauses, ReachLimits, Ready}
+use Rattle.queries.specs.Query.{Query, startFits, goalFits, visitedBy, plansFor, StartFits, GoalFits, RunsWithin, LeadsToGoal, Unpruned}
+use Rattle.queries.specs.declared.Answer.{Answer}
 
 -- the causes for which a query is refused before any sequence is visited, in document 01's order:
 -- set, reach, table length, start, goal, more than 32 moves, plan buffer shorter than the move bound, table not accepted
@@ -30,7 +31,7 @@ queryCauses set query =
     ∷ (14, not (accepted set (query .reach) (query .table)))
     ∷ [])
 
--- the cheapest of all plans, the first of these in document 01's order
+-- of all plans the cheapest; of those that cost the same the first in document 01's order
 unfoldable pub cheapestPlan : RuleSet → Query → Option Sequence
 cheapestPlan set query = cheapest (ruleCost set) (plansFor set query)
 
@@ -87,16 +88,55 @@ NotRefused set query = NoneHolds (queryCauses set query)
 pub record Demand3 (set : RuleSet) (query : Query) (found : Searched) : Type 0 where
   -- the counted sequences are the unpruned ones that can be run from the start within both bounds, each once
   pub counted : (q : Sequence) → (q ∈ visitedBy set query) ↔ (RunsWithin set query q × Unpruned set query q)
-  pub once : Pairwise (λ (a b : Sequence). a ≡ b → ⊥) (visitedBy set query)
+  pub once : Pairwise (λ (a b : Sequence). a ≢ b) (visitedBy set query)
   pub steps : found .answer .steps ≡ min (length (visitedBy set query)) (query .stepLimit)
   -- the limit is exceeded (document 01: spent) exactly if their number is above it
   pub limitExceeded : (found .answer .outcome ≡ 16) ↔ (query .stepLimit < length (visitedBy set query))
   -- if it is not, no plan exactly if no rule sequence at all leads to the goal within both bounds; otherwise a plan is found
-  pub noPlan : (found .answer .outcome ≡ 16 → ⊥) → (found .answer .outcome ≡ 15) ↔ ((q : Sequence) → LeadsToGoal set query q → ⊥)
-  pub planFound : (found .answer .outcome ≡ 16 → ⊥) → (found .answer .outcome ≡ 15 → ⊥) → found .answer .outcome ≡ 0
+  pub noPlan : found .answer .outcome ≢ 16 → ((found .answer .outcome ≡ 15) ↔ ((q : Sequence) → LeadsToGoal set query q → ⊥))
+  pub planFound : found .answer .outcome ≢ 16 → found .answer .outcome ≢ 15 → found .answer .outcome ≡ 0
   -- the plan found is one of those sequences, its cost is the cost shown, and every other one costs more, or costs as much and comes later
   pub cheapestShown : found .answer .outcome ≡ 0
       → (p : Sequence) × LeadsToGoal set query p × (found .answer .cost ≡ sequenceCost set p) × (found .answer .length ≡ length p) × (found .plan ≡ padded (query .planSize) noMove p)
       × ((q : Sequence) → LeadsToGoal set query q → (q ≡ p) ⊎ Preferred (ruleCost set) p q)
-  -- with any other outcome no plan is shown, and the whole plan buffer is blank
-  pub blank : (found .answer .outcome ≡ 0 → ⊥) → (found .answer .cost ≡ 0) × (found .answer .length ≡ 0) × (found .plan ≡ replicate (query .planSize) noMove)
+
+-- ── What the answer of any query means ───────────────────────────────────────────────────────────
+
+-- what a query has passed, up to the start, the goal, the move bound and the plan buffer's length
+abbrev pub StartPassed : RuleSet → Query → Type 0
+StartPassed set query = Ready set (query .reach) (length (query .table)) × StartFits set (query .start)
+
+abbrev pub GoalPassed : RuleSet → Query → Type 0
+GoalPassed set query = StartPassed set query × GoalFits set (query .goal)
+
+abbrev pub MovesPassed : RuleSet → Query → Type 0
+MovesPassed set query = GoalPassed set query × (query .maxMoves ≤ 32)
+
+abbrev pub RoomPassed : RuleSet → Query → Type 0
+RoomPassed set query = MovesPassed set query × (query .maxMoves ≤ query .planSize)
+
+-- no cause of a refusal holds: all that, and the table is accepted
+abbrev pub WellPosed : RuleSet → Query → Type 0
+WellPosed set query = RoomPassed set query × Accepted set (query .reach) (query .table)
+
+-- the same, and the sequences to visit are not more than the limit
+abbrev pub WithinLimit : RuleSet → Query → Type 0
+WithinLimit set query = WellPosed set query × (length (visitedBy set query) ≤ query .stepLimit)
+
+-- what a search tells and leaves: each number exactly if its cause holds and none before it does, 0 exactly if none holds; demand 3 for every query that is not refused; no steps for one that is;
+-- and without a plan a blank plan buffer
+pub record SearchMeaning (set : RuleSet) (query : Query) (found : Searched) : Type 0 where
+  pub notValid : (found .answer .outcome ≡ 7) ↔ (Valid set → ⊥)
+  pub badReach : (found .answer .outcome ≡ 5) ↔ (Valid set × (ReachLimits (query .reach) → ⊥))
+  pub badLength : (found .answer .outcome ≡ 6) ↔ (Valid set × (ReachLimits (query .reach) × (length (query .table) ≢ 2 * tableEntries set (query .reach))))
+  pub badStart : (found .answer .outcome ≡ 9) ↔ (Ready set (query .reach) (length (query .table)) × (StartFits set (query .start) → ⊥))
+  pub badGoal : (found .answer .outcome ≡ 10) ↔ (StartPassed set query × (GoalFits set (query .goal) → ⊥))
+  pub manyMoves : (found .answer .outcome ≡ 11) ↔ (GoalPassed set query × (32 < query .maxMoves))
+  pub smallBuffer : (found .answer .outcome ≡ 12) ↔ (MovesPassed set query × (query .planSize < query .maxMoves))
+  pub notAccepted : (found .answer .outcome ≡ 14) ↔ (RoomPassed set query × (Accepted set (query .reach) (query .table) → ⊥))
+  pub limited : (found .answer .outcome ≡ 16) ↔ (WellPosed set query × (query .stepLimit < length (visitedBy set query)))
+  pub unsolvable : (found .answer .outcome ≡ 15) ↔ (WithinLimit set query × ((q : Sequence) → LeadsToGoal set query q → ⊥))
+  pub solved : (found .answer .outcome ≡ 0) ↔ (WithinLimit set query × ((q : Sequence) × LeadsToGoal set query q))
+  pub answered : WellPosed set query → Demand3 set query found
+  pub noSteps : (WellPosed set query → ⊥) → found .answer .steps ≡ 0
+  pub noPlanShown : found .answer .outcome ≢ 0 → (found .answer .cost ≡ 0) × (found .answer .length ≡ 0) × (found .plan ≡ replicate (query .planSize) noMove)
