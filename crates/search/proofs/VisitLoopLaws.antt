@@ -1,0 +1,174 @@
+-- The turns of the loop of `visit_from`: what the rules from a place on make of the progress, with the rule there and without it; what a call for one more rule asks;
+-- and that an exceeded progress stays as it is.
+-- Assumes nothing.
+use mathlib.Core.Path.{_≡_, refl, sym, ap, ap₂, _∙_}
+use mathlib.Core.Logic.{_≢_}
+use mathlib.Core.Bool.{Bool, true, false, cond, _&&_}
+use mathlib.Core.Option.{Option, some, none}
+use mathlib.Core.List.{List, [], _∷_, _++_}
+use Prim.Native.Nat.{ℕ, zero, suc, _+_, _-_, _*_, _≤_, _<_}
+use native.Mathlib.Omega.{arith}
+use lib.Dec.{leb, ltb, eqb}
+use lib.ListN.{length, getD, take, replicate, length-append}
+use lib.Seq.{take-at}
+use borrow.Author.Tests.{leb-true}
+use Rattle.theory.specs.Lists.{foldOver, numbersFrom, onlyIf, padded}
+use Rattle.theory.specs.Sequences.{Sequence, costOf}
+use Rattle.theory.specs.Indices.{indexOf}
+use Rattle.theory.specs.Recursion.{last, enterWith}
+use Rattle.theory.proofs.ListLaws.{and-split}
+use Rattle.theory.proofs.SequenceLaws.{cost-append, numbered-append}
+use Rattle.model.specs.States.{State, applicable, successor}
+use Rattle.model.proofs.LoopLaws.{rules-left}
+use Rattle.queries.specs.Searched.{noMove}
+use Rattle.search.specs.declared.visits.Progress.{Progress}
+use Rattle.search.specs.declared.visits.Limits.{Limits}
+use Rattle.search.specs.Visits.{lentStep, lentCost, mayGoOn, bestAt, noted, visitsFrom, ZerosFrom, Reached}
+use Rattle.search.proofs.StateLoopLaws.{successor-zeros}
+use Rattle.search.proofs.PlanArrayLaws.{plan-moves}
+use Rattle.search.proofs.LookupLaws.{last-place}
+
+-- ── Carrying along ───────────────────────────────────────────────────────────────────────────────
+
+-- what no element of a list changes stays as it is
+fold-fixed : {A B : Type 0} (f : A → B → B) (b : B) (l : List A) → ((a : A) → f a b ≡ b) → foldOver f b l ≡ b
+fold-fixed f b [] h = refl
+fold-fixed f b (a ∷ l) h = ap (λ x. foldOver f x l) (h a) ∙ fold-fixed f b l h
+
+-- and so does what no state changes that a rule may lead to
+enter-fixed : {A C : Type 0} (c : C) (b : Bool) (o : Option A) (visit : A → C) → ((t : A) → visit t ≡ c) → enterWith c b o visit ≡ c
+enter-fixed c b none visit h = refl
+enter-fixed c true (some t) visit h = h t
+enter-fixed c false (some t) visit h = refl
+
+-- where a test decides whether there is a state, the two tests decide together
+enter-only : {A C : Type 0} (c : C) (b a : Bool) (t : A) (visit : A → C) → enterWith c b (onlyIf a t) visit ≡ cond (b && a) (visit t) c
+enter-only c true true t visit = refl
+enter-only c false true t visit = refl
+enter-only c true false t visit = refl
+enter-only c false false t visit = refl
+
+-- what the search goes on to costs no more than the cost bound, and fits where that fits
+pub goes-within : (total most room : ℕ) (b a goes : Bool) → goes ≡ ((leb total most && b) && a) → goes ≡ true → most < room → total < room
+goes-within total most room b a goes e t h = let w = leb-true total most (and-split (leb total most) b (and-split (leb total most && b) a (sym e ∙ t) .0) .0) in omega arith
+
+-- an exceeded progress stays as it is
+noted-exceeded : (goal : List ℕ) (limit cost : ℕ) (q : Sequence) (s : State) (p : Progress) → p .exceeded ≡ true → noted goal limit cost q s p ≡ p
+unfolding noted
+noted-exceeded goal limit cost q s p h =
+    ap (λ b. cond b p (cond (ltb (p .steps) limit) (record { steps = p .steps + 1; exceeded = false; best = bestAt goal cost q s (p .best) }) (record { steps = p .steps; exceeded = true; best = p .best }))) h
+
+-- ── The loop over the rules ──────────────────────────────────────────────────────────────────────
+
+module _ (conditions effects : List (List ℕ)) (costs blocked goal : List ℕ) (limits : Limits) where
+  abbrev visits : ℕ → Sequence → State → Progress → Progress
+  visits = visitsFrom conditions effects costs blocked goal limits
+
+  -- what rule r behind q makes of the progress, with n moves left behind it
+  abbrev byRule : ℕ → Sequence → State → ℕ → Progress → Progress
+  byRule n q s r c = enterWith c (mayGoOn costs blocked limits (q ++ (r ∷ []))) (lentStep conditions effects r s) (λ t. visits n (q ++ (r ∷ [])) t c)
+
+  -- what the rules from place k on make of it
+  pub restFrom : ℕ → Sequence → State → ℕ → Progress → Progress
+  restFrom n q s k c = foldOver (byRule n q s) c (numbersFrom (k + 1) (limits .count - k))
+
+  -- no move is left: the sequence alone is visited
+  pub visits-last : (left : ℕ) (q : Sequence) (s : State) (p : Progress) (cost : ℕ) → left ≡ 0 → cost ≡ costOf (lentCost costs) q → noted goal (limits .«step_limit») cost q s p ≡ visits left q s p
+  unfolding visitsFrom
+  visits-last left q s p cost e paid = rw (e, paid)
+
+  -- before the loop
+  pub whole : (left : ℕ) (q : Sequence) (s : State) (p : Progress) (cost : ℕ) (c : Progress) → left ≢ 0 → cost ≡ costOf (lentCost costs) q → c ≡ noted goal (limits .«step_limit») cost q s p
+      → restFrom (left - 1) q s 0 c ≡ visits left q s p
+  unfolding restFrom visitsFrom
+  whole zero q s p cost c h paid is = absurd (h refl)
+  whole (suc n) q s p cost c h paid is = let f : limits .count - 0 ≡ limits .count = omega arith in let e : suc n - 1 ≡ n = omega arith in rw (f, e, is, paid)
+
+  -- after the loop
+  pub loop-end : (n : ℕ) (q : Sequence) (s : State) (k : ℕ) (c : Progress) → limits .count ≤ k → restFrom n q s k c ≡ c
+  unfolding restFrom
+  loop-end n q s k c h = let e : limits .count - k ≡ 0 = omega arith in rw e
+
+  -- an exceeded progress stays as it is, all through what is to come
+  visits-exceeded : (n : ℕ) (q : Sequence) (s : State) (c : Progress) → c .exceeded ≡ true → visits n q s c ≡ c
+  unfolding visitsFrom
+  visits-exceeded zero q s c h = noted-exceeded goal (limits .«step_limit») (costOf (lentCost costs) q) q s c h
+  visits-exceeded (suc n) q s c h =
+      ap (λ x. foldOver (byRule n q s) x (numbersFrom 1 (limits .count))) (noted-exceeded goal (limits .«step_limit») (costOf (lentCost costs) q) q s c h)
+      ∙ fold-fixed (byRule n q s) c (numbersFrom 1 (limits .count)) (λ r. enter-fixed c (mayGoOn costs blocked limits (q ++ (r ∷ []))) (lentStep conditions effects r s) _ (λ t. visits-exceeded n (q ++ (r ∷ [])) t c h))
+
+  pub rest-exceeded : (n : ℕ) (q : Sequence) (s : State) (k : ℕ) (c : Progress) → c .exceeded ≡ true → restFrom n q s k c ≡ c
+  unfolding restFrom
+  rest-exceeded n q s k c h =
+      fold-fixed (byRule n q s) c (numbersFrom (k + 1) (limits .count - k))
+      (λ r. enter-fixed c (mayGoOn costs blocked limits (q ++ (r ∷ []))) (lentStep conditions effects r s) _ (λ t. visits-exceeded n (q ++ (r ∷ [])) t c h))
+
+  -- one turn
+  turn : (n : ℕ) (q : Sequence) (s : State) (k : ℕ) (c : Progress) → k < limits .count → restFrom n q s k c ≡ restFrom n q s (k + 1) (byRule n q s (k + 1) c)
+  unfolding restFrom
+  turn n q s k c h = ap (foldOver (byRule n q s) c) (rules-left k (limits .count) h)
+
+  -- whether the search goes on by the rule at place k, as `goes_on` tells from the cost so far and the first place in the look-up
+  abbrev goesBy : ℕ → ℕ → State → ℕ → Bool
+  goesBy cost first s k = (leb (cost + getD costs k 0) (limits .«max_cost») && eqb (getD blocked (first + k) 0) 0) && applicable (getD conditions k []) s
+
+  module _ (q : Sequence) (cost first : ℕ) (at : first ≡ indexOf (limits .count) (last (limits .reach - 1) q) * limits .count + 1) (paid : cost ≡ costOf (lentCost costs) q) (low : 1 ≤ limits .reach) where
+    -- the rule at place k has the number k + 1
+    may-next : (k : ℕ) → mayGoOn costs blocked limits (q ++ ((k + 1) ∷ [])) ≡ (leb (cost + getD costs k 0) (limits .«max_cost») && eqb (getD blocked (first + k) 0) 0)
+    unfolding mayGoOn lentCost
+    may-next k =
+        let i : k + 1 - 1 ≡ k = omega arith in
+        let r : suc (limits .reach - 1) ≡ limits .reach = omega arith in
+        ap₂ (λ a b. leb a (limits .«max_cost») && eqb (getD blocked b 0) 0)
+        (cost-append (lentCost costs) q ((k + 1) ∷ []) ∙ ap₂ _+_ (sym paid) (omega (arith, ap (λ j. getD costs j 0) i)))
+        (ap (λ j. indexOf (limits .count) (last j (q ++ ((k + 1) ∷ [])))) (sym r) ∙ last-place (limits .count) (limits .reach - 1) q (k + 1) ∙ omega (arith, at))
+
+    module _ (n : ℕ) (s : State) (k : ℕ) (c : Progress) where
+      -- what that rule makes of the progress
+      by-next : (goes : Bool) → goesBy cost first s k ≡ goes → byRule n q s (k + 1) c ≡ cond goes (visits n (q ++ ((k + 1) ∷ [])) (successor (getD effects k []) s) c) c
+      unfolding lentStep
+      by-next goes e =
+          let i : k + 1 - 1 ≡ k = omega arith in
+          ap₂ (λ b j. enterWith c b (onlyIf (applicable (getD conditions j []) s) (successor (getD effects j []) s)) (λ t. visits n (q ++ ((k + 1) ∷ [])) t c)) (may-next k) i
+          ∙ enter-only c _ (applicable (getD conditions k []) s) (successor (getD effects k []) s) (λ t. visits n (q ++ ((k + 1) ∷ [])) t c)
+          ∙ ap (λ b. cond b (visits n (q ++ ((k + 1) ∷ [])) (successor (getD effects k []) s) c) c) e
+
+      module _ (X : Progress) (h : k < limits .count) (inv : restFrom n q s k c ≡ X) (goes : Bool) (is : goes ≡ goesBy cost first s k) where
+        -- a turn that goes on by the rule, and what it finds
+        pub turn-taken : goes ≡ true → (longer : Sequence) → longer ≡ q ++ ((k + 1) ∷ []) → (next : State) → next ≡ successor (getD effects k []) s
+            → (found c′ : Progress) → c′ ≡ found → found ≡ visits n longer next c → restFrom n q s (k + 1) c′ ≡ X
+        turn-taken t longer made next led found c′ got e =
+            ap (restFrom n q s (k + 1)) (got ∙ e ∙ ap₂ (λ l u. visits n l u c) made led ∙ sym (by-next true (sym is ∙ t))) ∙ sym (turn n q s k c h) ∙ inv
+
+        -- a turn that does not
+        pub turn-left : goes ≡ false → restFrom n q s (k + 1) c ≡ X
+        turn-left t = ap (restFrom n q s (k + 1)) (sym (by-next false (sym is ∙ t))) ∙ sym (turn n q s k c h) ∙ inv
+
+-- ── What a call for one more rule asks ───────────────────────────────────────────────────────────
+
+module _ (costs : List ℕ) (limits : Limits) (state plan : List ℕ) (n cost left : ℕ) (reached : Reached costs limits state plan n cost left) where
+  -- the sequence so far is as long as it says
+  so-far : length (take n plan) ≡ n
+  so-far = plan-moves 32 noMove plan n (reached .rest) (let r = reached .room in omega arith)
+
+  module _ (k : ℕ) (longer : List ℕ) (made : longer ≡ padded 32 noMove (take n plan ++ ((k + 1) ∷ []))) where
+    -- the longer plan begins with the longer sequence
+    pub plan-next : take (n + 1) longer ≡ take n plan ++ ((k + 1) ∷ [])
+    plan-next =
+        let q = take n plan ++ ((k + 1) ∷ []) in
+        ap (take (n + 1)) made ∙ take-at q (replicate (32 - length q) noMove) (n + 1) (omega (arith, length-append (take n plan) ((k + 1) ∷ []), so-far))
+
+    -- the sequence with the rule at place k behind it is reached, with any number of moves to come for which there is room
+    pub reached-next : k < limits .count → (effect : List ℕ) → ZerosFrom (limits .positions) effect → (next : State) → next ≡ successor effect state
+        → (less : ℕ) → n + 1 + less ≤ 32 → Reached costs limits next longer (n + 1) (cost + getD costs k 0) less
+    unfolding lentCost
+    reached-next h effect zeros next led less room = record {
+      room = room;
+      rest = made ∙ ap (padded 32 noMove) (sym plan-next);
+      rules = rw plan-next (numbered-append (limits .count) (take n plan) ((k + 1) ∷ []) (reached .rules) (omega arith, omega arith, tt));
+      total = sym (ap (costOf (lentCost costs)) plan-next ∙ cost-append (lentCost costs) (take n plan) ((k + 1) ∷ []) ∙ ap₂ _+_ (sym (reached .total)) paid);
+      stateEnd = rw led (successor-zeros effect state (limits .positions) zeros);
+    }
+      where
+        paid : costOf (lentCost costs) ((k + 1) ∷ []) ≡ getD costs k 0
+        paid = let i : k + 1 - 1 ≡ k = omega arith in omega (arith, ap (λ j. getD costs j 0) i)
