@@ -152,8 +152,12 @@ impl Query<'_> {
         }
         let first = self.first_place(&progress.plan, depth);
         let blocked = &self.blocked[first..first + self.rules.len()];
-        for (k, (rule, block)) in self.rules.iter().zip(blocked).enumerate() {
-            if *block || self.max_cost < cost + rule.cost || !self.runs(&rule.condition, state) {
+        for k in 0..blocked.len() {
+            if blocked[k] {
+                continue;
+            }
+            let rule = &self.rules[k];
+            if self.max_cost < cost + rule.cost || !self.runs(&rule.condition, state) {
                 continue;
             }
             progress.plan[depth] = k as u8 + 1;
