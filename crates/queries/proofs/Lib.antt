@@ -4,4 +4,5 @@ pub mod PlanVisited
 pub mod AnswerLaws
 pub mod MeaningLaws
 pub mod OutcomeLaws
+pub mod PlanPartLaws
 pub mod TallyLaws

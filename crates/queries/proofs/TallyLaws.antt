@@ -1,34 +1,59 @@
--- Each query adds 1 to just one of the first four counts of the tally, unless that one is at its top.
+-- What the update of a tally means: each query adds 1 to just one of the first four counts, that of its outcome, unless that one is at its top, and its steps to their sum.
 -- Assumes nothing.
-use mathlib.Core.Path.{_≡_, refl}
-use mathlib.Core.Bool.{Bool, true, false, not, _||_}
-use Prim.Native.Nat.{ℕ}
+use mathlib.Core.Path.{_≡_, refl, ap, _∙_}
+use mathlib.Core.Logic.{_⊎_, inl, inr, _≢_}
+use mathlib.Core.List.{List}
+use Prim.Native.Nat.{ℕ, _<_}
 use native.Mathlib.Omega.{arith}
-use lib.Dec.{eqb, lit<}
-use borrow.Author.Tests.{eqb-true}
-use Rattle.queries.specs.Tallies.{raised, raisedIf, talliedOf, OneRaised}
+use lib.Dec.{lit<}
+use lib.ListN.{getD, set as replace}
+use lib.Seq.{getD-set-same, getD-set-other}
+use borrow.Author.Tests.{ne-eqb}
+use Rattle.theory.proofs.TestLaws.{equal?}
+use Rattle.queries.specs.Tallies.{raised, talliedOf, counts, countAt, countPlace, OneRaised, TallyMeaning}
 use Rattle.queries.specs.declared.Tally.{Tally}
 
-pub one-raised : (tally : Tally) (outcome steps : ℕ) → OneRaised tally (talliedOf tally outcome steps)
-unfolding talliedOf
-one-raised tally outcome steps = go (eqb outcome 0) refl (eqb outcome 15) refl (eqb outcome 16) refl
-  where
-    after : Bool → Bool → Bool → Tally
-    after a b c =
-        record {
-          solved = raisedIf a (tally .solved);
-          unsolvable = raisedIf b (tally .unsolvable);
-          limited = raisedIf c (tally .limited);
-          refused = raisedIf (not (a || (b || (c || false)))) (tally .refused);
-          steps = raised (tally .steps) steps;
-        }
+module _ (tally : Tally) (outcome steps : ℕ) where
+  -- the counts with one of them raised by 1
+  abbrev raisedAt : ℕ → List ℕ
+  raisedAt i = replace (counts tally) i (raised (countAt tally i) 1)
 
-    -- an outcome is one number
-    go : (a : Bool) → eqb outcome 0 ≡ a → (b : Bool) → eqb outcome 15 ≡ b → (c : Bool) → eqb outcome 16 ≡ c → OneRaised tally (after a b c)
-    go true e true f c g = absurd (omega (arith, eqb-true outcome 0 e, eqb-true outcome 15 f))
-    go true e false f true g = absurd (omega (arith, eqb-true outcome 0 e, eqb-true outcome 16 g))
-    go true e false f false g = (0, lit< tt, refl)
-    go false e true f true g = absurd (omega (arith, eqb-true outcome 15 f, eqb-true outcome 16 g))
-    go false e true f false g = (1, lit< tt, refl)
-    go false e false f true g = (2, lit< tt, refl)
-    go false e false f false g = (3, lit< tt, refl)
+  -- the outcome's count is raised
+  abbrev Updated : Tally → Type 0
+  Updated after = (i : ℕ) × (i < 4) × (i ≡ countPlace outcome) × (counts after ≡ raisedAt i)
+
+  updated : Updated (talliedOf tally outcome steps)
+  unfolding talliedOf
+  updated = go (equal? outcome 0) (equal? outcome 15) (equal? outcome 16)
+    where
+      go : (outcome ≡ 0) ⊎ (outcome ≢ 0) → (outcome ≡ 15) ⊎ (outcome ≢ 15) → (outcome ≡ 16) ⊎ (outcome ≢ 16) → Updated (talliedOf tally outcome steps)
+      go (inl e) _ _ = rw e (0, lit< tt, refl, refl)
+      go (inr _) (inl e) _ = rw e (1, lit< tt, refl, refl)
+      go (inr _) (inr _) (inl e) = rw e (2, lit< tt, refl, refl)
+      go (inr l) (inr m) (inr n) = rw (ne-eqb outcome 0 l, ne-eqb outcome 15 m, ne-eqb outcome 16 n) (3, lit< tt, refl, refl)
+
+  pub one-raised : OneRaised tally (talliedOf tally outcome steps)
+  one-raised =
+      let i = updated .0 in
+      let bound : i < 4 = updated .1 in
+      let own : countAt (talliedOf tally outcome steps) i ≡ raised (countAt tally i) 1 = at i ∙ getD-set-same (counts tally) i (raised (countAt tally i) 1) 0 (omega arith) in
+      record {
+        place = i;
+        firstFour = bound;
+        oneMore = λ k. omega arith;
+        atTop = λ k. omega arith;
+        othersStay = λ j k n. at j ∙ getD-set-other (counts tally) i j (raised (countAt tally i) 1) 0 n;
+      }
+    where
+      at : (j : ℕ) → countAt (talliedOf tally outcome steps) j ≡ getD (raisedAt (updated .0)) j 0
+      at j = ap (λ l. getD l j 0) (updated .3)
+
+  pub tally-meaning : TallyMeaning outcome steps tally (talliedOf tally outcome steps)
+  unfolding talliedOf one-raised
+  tally-meaning =
+      record {
+        oneRaised = one-raised;
+        ofOutcome = updated .2;
+        stepsAdded = λ h. omega arith;
+        stepsAtTop = λ h. omega arith;
+      }

@@ -1,10 +1,11 @@
 -- The tally of a caller's queries: five 64-bit counts that stay at their top value.
 use mathlib.Core.Path.{_≡_}
+use mathlib.Core.Logic.{_≢_}
 use mathlib.Core.Bool.{Bool, not, cond}
 use mathlib.Core.List.{List, [], _∷_}
-use Prim.Native.Nat.{ℕ, _+_, _<_, min}
+use Prim.Native.Nat.{ℕ, _+_, _≤_, _<_, min}
 use lib.Dec.{eqb}
-use lib.ListN.{getD, set as replace}
+use lib.ListN.{getD}
 use Rattle.model.specs.declared.RuleSet.{RuleSet}
 use Rattle.queries.specs.Query.{Query}
 use Rattle.queries.specs.Searched.{isAnswer, Searched, searched}
@@ -50,6 +51,27 @@ queried set query tally =
 abbrev pub counts : Tally → List ℕ
 counts tally = tally .solved ∷ tally .unsolvable ∷ tally .limited ∷ tally .refused ∷ []
 
--- just one of the four is raised by 1, unless it is at its top, and the others stay
-abbrev pub OneRaised : Tally → Tally → Type 0
-OneRaised before after = (i : ℕ) × (i < 4) × (counts after ≡ replace (counts before) i (raised (getD (counts before) i 0) 1))
+-- the one at a place, from 0 on
+abbrev pub countAt : Tally → ℕ → ℕ
+countAt tally i = getD (counts tally) i 0
+
+-- the place of an outcome's count among them
+abbrev pub countPlace : ℕ → ℕ
+countPlace outcome = cond (eqb outcome 0) 0 (cond (eqb outcome 15) 1 (cond (eqb outcome 16) 2 3))
+
+-- 1 is added to just one of the first four, unless that one is at its top
+pub record OneRaised (before after : Tally) : Type 0 where
+  pub place : ℕ
+  pub firstFour : place < 4
+  pub oneMore : countAt before place < top → countAt after place ≡ countAt before place + 1
+  pub atTop : countAt before place ≡ top → countAt after place ≡ top
+  pub othersStay : (i : ℕ) → i < 4 → i ≢ place → countAt after i ≡ countAt before i
+
+-- what the update by a query's outcome and its steps means
+pub record TallyMeaning (outcome steps : ℕ) (before after : Tally) : Type 0 where
+  -- the one raised is the count of the outcome
+  pub oneRaised : OneRaised before after
+  pub ofOutcome : oneRaised .place ≡ countPlace outcome
+  -- the steps are added to their sum, which stays at its top
+  pub stepsAdded : before .steps + steps ≤ top → after .steps ≡ before .steps + steps
+  pub stepsAtTop : top < before .steps + steps → after .steps ≡ top
