@@ -1,6 +1,7 @@
 // The search (document 01: the walk): the cheapest plan of a query, or why there is none.
 mod lookup;
 mod query;
+pub mod tally;
 mod visits;
 
 use lookup::fill_lookup;
@@ -17,8 +18,9 @@ ghost use mathlib.Core.Path.{_≡_};
 ghost use mathlib.Core.List.{map, _++_};
 ghost use Prim.Native.Nat.{_≤_};
 ghost use lib.ListN.{length, take, drop};
+ghost use Rattle.queries.specs.PlanPart.{planPart};
 ghost use Rattle.queries.specs.Query.{asked};
-ghost use Rattle.queries.specs.Searched.{searched, NotRefused, SearchMeaning};
+ghost use Rattle.queries.specs.Searched.{Searched, searched, NotRefused, SearchMeaning};
 ghost use Rattle.search.specs.Visits.{Explored};
 
 // The byte of the plan buffer where there is no move.
@@ -168,7 +170,7 @@ pub fn search(
     step_limit: u32,
     plan: &mut [u8],
 ) -> Answer
-    ensures { λ r. ⌜ (searched set (asked reach (now (table .entry)) (now (start .entry)) (now (goal .entry)) «max_moves» «max_cost» «step_limit» (length (now (plan .entry)))) ≡ record { answer = r; plan = now (plan .exit) }) × SearchMeaning set (asked reach (now (table .entry)) (now (start .entry)) (now (goal .entry)) «max_moves» «max_cost» «step_limit» (length (now (plan .entry)))) (record { answer = r; plan = now (plan .exit) }) ⌝ }
+    ensures { λ r. ⌜ (let query = asked reach (now (table .entry)) (now (start .entry)) (now (goal .entry)) «max_moves» «max_cost» «step_limit» (length (now (plan .entry))) in let found : Searched = record { answer = r; plan = now (plan .exit) } in (searched set query ≡ found) × SearchMeaning set query found) ⌝ }
 {
     fill_from(plan, 0, NO_MOVE);
     let refusal = query_refusal(set, reach, table, start, goal, max_moves, plan.len());
@@ -200,4 +202,14 @@ pub fn search(
         length: best.length,
         steps: progress.steps,
     }
+}
+
+// The plan handed back: the front part of the caller's own plan buffer, from its start; an empty one where the length is above the buffer's.
+pub fn plan_part(plan: &[u8], length: usize) -> &[u8]
+    ensures { λ r. ⌜ (now r ≡ planPart (now (plan .entry)) length) × (r .ptr ≡ plan .entry .ptr) ⌝ }
+{
+    if length <= plan.len() {
+        return &plan[..length];
+    }
+    &plan[..0]
 }
