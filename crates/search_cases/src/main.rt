@@ -1,30 +1,44 @@
-// Runs the search on the cases of standard input and prints what it gives. A case is a line: a letter, a space and a text. Each line is printed again, cut at 120 bytes, with the answer
+// Runs the search, the plan handed back and the tally on the cases of standard input and prints what they give. A case is a line: a letter, a space and a text. Each line is printed again, cut at 120 bytes, with the answer
 // after it. A line that begins with `#` is a heading. A number too large for 64 bits counts as the largest that is not.
 // - `f` read the text, in which `/` stands for a line feed: the outcome. Its set is the one of the lines that follow
 // - `s` change the set's number of positions and its number of rules to these two: whether it is valid
 // - `b` a reach and a size: fill that many bytes with 170 and build a table in them, which then stands: the outcome and how many marks it has. A size above 65,536 counts as 65,536, here and for `t`
 // - `t` a size and entries, as `6:7,16:12`: the table that stands is that many bytes of 255, with these values at these indices: how many marks it has
 // - `q` a reach, a start, a goal, a move bound, a cost bound, a step limit and a room: search with the table that stands and a plan buffer of `room` bytes, each 170 before: outcome, cost, length
-//   and steps; the plan's moves, read from the buffer; whether every other byte of the buffer is 255. Start and goal have commas between their bytes, `-` is one of no bytes. A byte above 255
-//   counts as 255, a cost bound above 65,535, a step limit above 4,294,967,295 and a room above 4,096 as these numbers
+//   and steps; the plan's moves, as `plan_part` hands them back; whether every other byte of the buffer is 255. Start and goal have commas between their bytes, `-` is one of no bytes. A byte above 255
+//   counts as 255, a cost bound above 65,535, a step limit above 4,294,967,295 and a room above 4,096 as these numbers, here and for the letters below
+// - `c` five counts with commas between, plans found, no plan, step limit exceeded, refused and steps: they are the tally that then stands: the tally. All five are 0 before the first line
+// - `k` the same as for `q`: a search that updates the tally that stands, with the first `room` bytes of the plan buffer that stands: what `q` gives, and the tally. This buffer has 4,096 bytes,
+//   each 170 before the first line; each `k` finds it as the last one left it, and `q` does not use it
+// - `u` an outcome and a number of steps: the tally that stands after a query with these: once by value, once where it is kept. An outcome above 255 counts as 255, steps above 4,294,967,295 as
+//   that number
+// - `p` a length and a room: the plan handed back for that length from the first `room` bytes of the plan buffer that stands: its bytes
 // A board of three by three cells has a position for each cell, row by row, that holds 0 for a blank (blanks are alike) or the number of a tile. Its 24 rules are in the order of their names
 // in source 000, by row, column and direction, as in `table_cases`: 1 is 11D, 5 is 12R, 9 is 21R, 19 is 31U.
 // The answers that `stdout` holds were worked out from document 01 by a script that runs every sequence within the bounds, pruned or not, counts those without a marked segment and keeps the first
 // of the cheapest that lead to the goal. Where there are too many (32 moves of E and of the arrows), it keeps for each length and state the cheapest sequence that leads there, the first of these,
 // and counts the unpruned ones by state, last rules and cost; elsewhere both ways were compared. Marks were tested in every state or, where there are too many, in one whose free entries are all
-// different. P1 to P5, P9 and P10 are as document 01 gives them, and the numbers of steps that a heading gives were worked out by hand.
+// different. P1 to P5, P9 and P10 are as document 01 gives them, and the numbers of steps that a heading gives were worked out by hand. Tallies and parts of the plan buffer came from a script too.
 use libc::STDIN_FILENO;
 use libc::STDOUT_FILENO;
 use model::RuleSet;
 use model::buffers::fill_from;
 use queries::Answer;
+use queries::Tally;
 ghost use Prim.Native.Nat.{_≤_};
 ghost use lib.ListN.{length};
 
-// What the lines before leave: the rule set, and how many bytes the table that stands has.
+// What the lines before leave: the rule set, how many bytes the table that stands has, and the tally.
 struct Standing {
     set: RuleSet,
     size: usize,
+    tally: Tally,
+}
+
+// An answer, and the tally updated by it.
+struct Counted {
+    answer: Answer,
+    tally: Tally,
 }
 
 fn print(text: &[u8]) {
@@ -265,8 +279,8 @@ fn print_answer(answer: Answer, plan: &[u8]) {
     print(b"; steps ");
     print_number(answer.steps as u64);
     print(b"; plan ");
+    print_moves(search::plan_part(plan, answer.length as usize));
     let size = least(answer.length as usize, plan.len());
-    print_moves(&plan[0..size]);
     if blank(&plan[size..]) {
         print(b"; rest 255");
         return;
@@ -291,23 +305,72 @@ fn print_search(
     print_answer(answer, plan);
 }
 
-// The search for a start and a goal; the text holds moves, cost, limit and room.
-fn print_found(
+// The counts of a tally, with commas between.
+fn print_tally(tally: Tally) {
+    print_number(tally.solved);
+    print(b",");
+    print_number(tally.unsolvable);
+    print(b",");
+    print_number(tally.limited);
+    print(b",");
+    print_number(tally.refused);
+    print(b",");
+    print_number(tally.steps);
+}
+
+// A search with a tally that is kept in a local.
+fn counted_search(
     set: RuleSet,
     reach: usize,
     table: &[u8],
     start: &[u8],
     goal: &[u8],
-    text: &[u8],
+    max_moves: usize,
+    max_cost: u16,
+    step_limit: u32,
     plan: &mut [u8],
-) {
-    let moves = number_of(up_to(b' ', text));
-    let bounds = behind(b' ', text);
-    let cost = least(number_of(up_to(b' ', bounds)), 65535) as u16;
-    let limits = behind(b' ', bounds);
-    let limit = least(number_of(up_to(b' ', limits)), 4294967295) as u32;
-    let room = least(number_of(behind(b' ', limits)), plan.len());
-    print_search(
+    tally: Tally,
+) -> Counted {
+    let mut local = tally;
+    let answer = search::tally::search_with_tally(
+        set,
+        reach,
+        table,
+        start,
+        goal,
+        max_moves,
+        max_cost,
+        step_limit,
+        plan,
+        &mut local,
+    );
+    Counted {
+        answer,
+        tally: local,
+    }
+}
+
+// The update of a tally that is kept in a local.
+fn updated(tally: Tally, outcome: u8, steps: u32) -> Tally {
+    let mut local = tally;
+    search::tally::update(&mut local, outcome, steps);
+    local
+}
+
+// A search that updates the tally, with a plan buffer as it is; gives the tally.
+fn print_tallied_search(
+    set: RuleSet,
+    reach: usize,
+    table: &[u8],
+    start: &[u8],
+    goal: &[u8],
+    moves: usize,
+    cost: u16,
+    limit: u32,
+    plan: &mut [u8],
+    tally: Tally,
+) -> Tally {
+    let counted = counted_search(
         set,
         reach,
         table,
@@ -316,15 +379,65 @@ fn print_found(
         moves,
         cost,
         limit,
-        &mut plan[0..room],
+        plan,
+        tally,
     );
+    let answer = counted.answer;
+    let next = counted.tally;
+    print_answer(answer, plan);
+    print(b"; tally ");
+    print_tally(next);
+    next
 }
 
-// The answer to `q`.
-fn print_query(set: RuleSet, text: &[u8], table: &[u8]) {
+// The search for a start and a goal, with the tally or without; the text holds moves, cost, limit and room. Gives the tally.
+fn print_found(
+    set: RuleSet,
+    reach: usize,
+    table: &[u8],
+    start: &[u8],
+    goal: &[u8],
+    text: &[u8],
+    plan: &mut [u8],
+    tally: Tally,
+    counted: bool,
+) -> Tally {
+    let moves = number_of(up_to(b' ', text));
+    let bounds = behind(b' ', text);
+    let cost = least(number_of(up_to(b' ', bounds)), 65535) as u16;
+    let limits = behind(b' ', bounds);
+    let limit = least(number_of(up_to(b' ', limits)), 4294967295) as u32;
+    let room = least(number_of(behind(b' ', limits)), plan.len());
+    let part = &mut plan[0..room];
+    if counted {
+        return print_tallied_search(
+            set,
+            reach,
+            table,
+            start,
+            goal,
+            moves,
+            cost,
+            limit,
+            part,
+            tally,
+        );
+    }
+    print_search(set, reach, table, start, goal, moves, cost, limit, part);
+    tally
+}
+
+// The search of a text with this plan buffer, with the tally or without; gives the tally.
+fn print_query(
+    set: RuleSet,
+    text: &[u8],
+    table: &[u8],
+    plan: &mut [u8],
+    tally: Tally,
+    counted: bool,
+) -> Tally {
     let mut starts = io::buffer();
     let mut goals = io::buffer();
-    let mut plan = io::buffer();
     let reach = number_of(up_to(b' ', text));
     let states = behind(b' ', text);
     let start = list_of(up_to(b' ', states), &mut starts);
@@ -338,8 +451,63 @@ fn print_query(set: RuleSet, text: &[u8], table: &[u8]) {
         &starts[0..start],
         &goals[0..goal],
         numbers,
-        &mut plan,
-    );
+        plan,
+        tally,
+        counted,
+    )
+}
+
+// The answer to `q`: a plan buffer of its own, and the tally as it was.
+fn print_untallied(set: RuleSet, text: &[u8], table: &[u8], tally: Tally) -> Tally {
+    let mut plan = io::buffer();
+    print_query(set, text, table, &mut plan, tally, false)
+}
+
+// The tally of a comma list.
+fn tally_of(text: &[u8]) -> Tally {
+    let solved = number_of(up_to(b',', text)) as u64;
+    let second = behind(b',', text);
+    let unsolvable = number_of(up_to(b',', second)) as u64;
+    let third = behind(b',', second);
+    let limited = number_of(up_to(b',', third)) as u64;
+    let fourth = behind(b',', third);
+    let refused = number_of(up_to(b',', fourth)) as u64;
+    let steps = number_of(behind(b',', fourth)) as u64;
+    Tally {
+        solved,
+        unsolvable,
+        limited,
+        refused,
+        steps,
+    }
+}
+
+// The answer to `c`; gives the tally.
+fn print_set_tally(text: &[u8]) -> Tally {
+    let tally = tally_of(text);
+    print(b"tally ");
+    print_tally(tally);
+    tally
+}
+
+// The answer to `u`; gives the tally.
+fn print_updates(tally: Tally, text: &[u8]) -> Tally {
+    let outcome = least(number_of(up_to(b' ', text)), 255) as u8;
+    let steps = least(number_of(behind(b' ', text)), 4294967295) as u32;
+    print(b"by value ");
+    print_tally(search::tally::tallied(tally, outcome, steps));
+    let next = updated(tally, outcome, steps);
+    print(b"; by reference ");
+    print_tally(next);
+    next
+}
+
+// The answer to `p`.
+fn print_part(text: &[u8], plan: &[u8]) {
+    let size = number_of(up_to(b' ', text));
+    let room = least(number_of(behind(b' ', text)), plan.len());
+    print(b"part ");
+    print_moves(search::plan_part(&plan[0..room], size));
 }
 
 // The set of a text, with its outcome printed.
@@ -366,39 +534,72 @@ fn changed_set(set: RuleSet, text: &[u8]) -> RuleSet {
     other
 }
 
+// The tally after a case, by its letter; a letter that is none of these stands for `q`.
+fn next_tally(
+    set: RuleSet,
+    tally: Tally,
+    verb: u8,
+    text: &[u8],
+    table: &[u8],
+    plan: &mut [u8],
+) -> Tally {
+    if verb == b'c' {
+        return print_set_tally(text);
+    }
+    if verb == b'u' {
+        return print_updates(tally, text);
+    }
+    if verb == b'p' {
+        print_part(text, plan);
+        return tally;
+    }
+    if verb == b'k' {
+        return print_query(set, text, table, plan, tally, true);
+    }
+    print_untallied(set, text, table, tally)
+}
+
 // The answer to a case, by its letter; gives what stands for the next case.
-fn answer(standing: Standing, verb: u8, text: &[u8], table: &mut [u8]) -> Standing
+fn answer(standing: Standing, verb: u8, text: &[u8], table: &mut [u8], plan: &mut [u8]) -> Standing
     requires { ⌜ standing .size ≤ length (now table) ⌝ }
     ensures { λ r. ⌜ r .size ≤ length (now (table .entry)) ⌝ }
 {
     let set = standing.set;
     let size = standing.size;
+    let tally = standing.tally;
     if verb == b'f' {
         return Standing {
             set: read_set(text),
             size,
+            tally,
         };
     }
     if verb == b's' {
         return Standing {
             set: changed_set(set, text),
             size,
+            tally,
         };
     }
     if verb == b'b' {
         return Standing {
             set,
             size: built(set, text, table),
+            tally,
         };
     }
     if verb == b't' {
         return Standing {
             set,
             size: made(text, table),
+            tally,
         };
     }
-    print_query(set, text, &table[0..size]);
-    standing
+    Standing {
+        set,
+        size,
+        tally: next_tally(set, tally, verb, text, &table[0..size], plan),
+    }
 }
 
 // The line, cut at 120 bytes.
@@ -412,7 +613,7 @@ fn print_line(line: &[u8]) {
 }
 
 // One case, or a heading, on a line of the input; gives what stands for the next line.
-fn run(standing: Standing, line: &[u8], table: &mut [u8]) -> Standing
+fn run(standing: Standing, line: &[u8], table: &mut [u8], plan: &mut [u8]) -> Standing
     requires { ⌜ standing .size ≤ length (now table) ⌝ }
     ensures { λ r. ⌜ r .size ≤ length (now (table .entry)) ⌝ }
 {
@@ -425,21 +626,33 @@ fn run(standing: Standing, line: &[u8], table: &mut [u8]) -> Standing
         return standing;
     }
     print(b": ");
-    let next = answer(standing, line[0], &line[2..], table);
+    let next = answer(standing, line[0], &line[2..], table, plan);
     print(b"\n");
     next
 }
 
-// The cases of all lines; the set of the first is the empty one, and no table stands.
-fn run_lines(input: &[u8], table: &mut [u8]) {
+// What stands before the first line: the empty set, no table, and a tally of 0 throughout.
+fn first_standing() -> Standing
+    ensures { λ r. ⌜ r .size ≤ 0 ⌝ }
+{
     let empty = rules::read(b"");
     let set = empty.set;
-    let mut standing = Standing { set, size: 0 };
+    let tally = tally_of(b"");
+    Standing {
+        set,
+        size: 0,
+        tally,
+    }
+}
+
+// The cases of all lines.
+fn run_lines(input: &[u8], table: &mut [u8], plan: &mut [u8]) {
+    let mut standing = first_standing();
     let mut from: usize = 0;
     while from < input.len() {
         let rest = &input[from..];
         let size = place_of(b'\n', rest);
-        standing = run(standing, &rest[0..size], table);
+        standing = run(standing, &rest[0..size], table, plan);
         from += size + 1;
     }
 }
@@ -447,6 +660,8 @@ fn run_lines(input: &[u8], table: &mut [u8]) {
 fn main() {
     let mut input = io::large_buffer();
     let mut table = io::large_buffer();
+    let mut plan = io::buffer();
+    fill_from(&mut plan, 0, 170);
     let n = io::read_full(STDIN_FILENO, &mut input);
-    run_lines(&input[..n], &mut table);
+    run_lines(&input[..n], &mut table, &mut plan);
 }

@@ -1,4 +1,4 @@
--- `search_cases::run_lines` meets its contract. Each turn leaves less of the input. The invariant: the table keeps its length, and the one that stands is no longer.
+-- `search_cases::run_lines` meets its contract. Each turn leaves less of the input. The invariant: the table and the plan buffer keep their lengths, and the table that stands is no longer.
 -- Assumes nothing.
 use mathlib.Core.Path.{_≡_}
 use Prim.Native.Nat.{_≤_, _-_}
@@ -8,16 +8,13 @@ use Rattle.search_cases.proofs.run_lines.Statement.{statement}
 use Rattle.search_cases.proofs.run_lines.Tie as tie
 
 abbrev Inv-loop : tie.InvT-loop
-Inv-loop input table₀ standing₀ from₀ table standing from = (length table ≡ length table₀) × (standing .size ≤ length table₀)
+Inv-loop input table₀ plan₀ standing₀ from₀ table plan standing from = (length table ≡ length table₀) × (length plan ≡ length plan₀) × (standing .size ≤ length table₀)
 
 abbrev μ-loop : tie.MeasureT-loop
-μ-loop input table₀ standing₀ from₀ table standing from = length input - from
+μ-loop input table₀ plan₀ standing₀ from₀ table plan standing from = length input - from
 
-slice-aggregate-read : tie.Need-slice-aggregate-read Inv-loop μ-loop
-slice-aggregate-read c = search needs
-
-read-requires : tie.Need-read-requires Inv-loop μ-loop
-read-requires c κs = search needs
+first-standing-requires : tie.Need-first-standing-requires Inv-loop μ-loop
+first-standing-requires c κs = search needs
 
 loop-holds : tie.Need-loop-holds Inv-loop μ-loop
 loop-holds c = search needs
@@ -61,6 +58,9 @@ loop-again c = search needs
 same-length : tie.Need-same-length Inv-loop μ-loop
 same-length c = search needs
 
+same-length-2 : tie.Need-same-length-2 Inv-loop μ-loop
+same-length-2 c = search needs
+
 returns : tie.Need-returns Inv-loop μ-loop
 returns c = search needs
 
@@ -70,8 +70,7 @@ run-lines-spec =
     (tie.spec
     Inv-loop
     μ-loop
-    slice-aggregate-read
-    read-requires
+    first-standing-requires
     loop-holds
     sub-rest
     part-rest-start
@@ -86,4 +85,5 @@ run-lines-spec =
     loop-less
     loop-again
     same-length
+    same-length-2
     returns)
