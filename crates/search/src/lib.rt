@@ -204,7 +204,7 @@ pub fn search(
     }
 }
 
-// The plan handed back: the front part of the caller's own plan buffer, from its start; an empty one where the length is above the buffer's.
+// The plan handed back (document 01: the second call): the front part of the caller's own plan buffer, from its start; an empty one where the length is above the buffer's.
 pub fn plan_part(plan: &[u8], length: usize) -> &[u8]
     ensures { λ r. ⌜ (now r ≡ planPart (now (plan .entry)) length) × (r .ptr ≡ plan .entry .ptr) ⌝ }
 {

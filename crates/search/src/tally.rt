@@ -70,7 +70,7 @@ pub fn update(tally: &mut Tally, outcome: u8, steps: u32)
     *tally = tallied(old, outcome, steps);
 }
 
-// A search, and then the update of the tally where the caller keeps it.
+// A query with a tally: a search, and then the update of the tally where the caller keeps it.
 pub fn search_with_tally(
     set: RuleSet,
     reach: usize,

@@ -121,7 +121,7 @@ module _ {M : Type 1} (𝓤 : URA M) (H : Heap 𝓤) (A : Atoms 𝓤) (W : Given
   abbrev Post : Val → SProp 𝓤
   Post = walkOf 𝓤 H A f.ended stayed (f.clauses 𝓤 H A at-mem run) .post ((lfts, shares, tt, x, at), tt)
 
-  -- what owns an answer, or a tally, is at its machine value
+  -- an answer is owned at no other value, and neither is a tally
   is-answer : (r : Answer) (v : Val) → Is N.the-row r (v ∷ []) → Is N.the-row r (answer-val r ∷ [])
   is-answer r v is = subst (Is N.the-row r) (LL.tells N.the-type N′.the-laws r _ is) is
 

@@ -151,7 +151,7 @@ module _ {M : Type 1} (𝓤 : URA M) (H : Heap 𝓤) (A : Atoms 𝓤) (W : Given
   abbrev answer-val : Answer → Val
   answer-val r = LL.tuple-val N.the-type N′.the-laws (N.the-type .to r)
 
-  -- what owns an answer is at that value, which has the answer's type
+  -- an answer is owned at no other value, and this one has its type
   is-val : (r : Answer) (v : Val) → Is N.the-row r (v ∷ []) → Is N.the-row r (answer-val r ∷ [])
   is-val r v is = subst (Is N.the-row r) (LL.tells N.the-type N′.the-laws r _ is) is
 

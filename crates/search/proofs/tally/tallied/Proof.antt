@@ -9,7 +9,7 @@ use Rattle.queries.proofs.TallyLaws.{tally-meaning}
 use Rattle.search.proofs.tally.tallied.Statement.{statement}
 use Rattle.search.proofs.tally.tallied.Tie as tie
 
--- what is the tally after a query has its meaning
+-- the meaning follows from the equation
 told : (tally : Tally) (outcome steps : ℕ) (r : Tally) → r ≡ talliedOf tally outcome steps → (r ≡ talliedOf tally outcome steps) × TallyMeaning outcome steps tally r
 told tally outcome steps r e = (e, subst (TallyMeaning outcome steps tally) (sym e) (tally-meaning tally outcome steps))
 
