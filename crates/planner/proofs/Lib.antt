@@ -1,1 +1,3 @@
 pub mod PackedLaws
+pub mod ReadTextLaws
+pub mod TextSearchLaws

@@ -15,7 +15,7 @@ use Rattle.queries.specs.Query.{Query}
 use Rattle.queries.specs.Searched.{Searched, searched, noMove}
 use Rattle.queries.specs.declared.Answer.{Answer}
 use Rattle.queries.proofs.AnswerLaws.{outcome-bound, cost-bound, length-bound, steps-bound, searched-blank}
-use Rattle.planner.specs.Packed.{packed, textRefused, searchedText}
+use Rattle.planner.specs.Packed.{packed, unpacked, textRefused, searchedText}
 
 -- the fields of an answer fit one byte, 16 bits, one byte and 32 bits
 pub record Fits (answer : Answer) : Type 0 where
@@ -40,6 +40,11 @@ module _ (answer : Answer) (fits : Fits answer) where
   pub packed-steps : packed answer / 4294967296 ≡ answer .steps
   unfolding packed
   packed-steps = omega arith
+
+  -- so the number stands for the answer
+  pub unpacked-packed : unpacked (packed answer) ≡ answer
+  unfolding unpacked
+  unpacked-packed = λ i. record { outcome = packed-outcome i; cost = packed-cost i; length = packed-length i; steps = packed-steps i }
 
   -- it fits 64 bits
   pub packed-fits : packed answer < 18446744073709551616

@@ -1,7 +1,7 @@
 -- The C entry of the search: it takes the rule text in place of a set, gives the answer as one 64-bit number, and has no tally.
 use mathlib.Core.Bool.{cond}
 use mathlib.Core.List.{List}
-use Prim.Native.Nat.{ℕ, _+_, _*_}
+use Prim.Native.Nat.{ℕ, _+_, _*_, _/_, _%_}
 use lib.Dec.{eqb}
 use lib.ListN.{length, replicate}
 use Rattle.rules.specs.Reading.{reading}
@@ -12,6 +12,10 @@ use Rattle.queries.specs.declared.Answer.{Answer}
 -- the outcome in the low byte, the length in the next, the cost in the next 16 bits, the steps in the top 32
 unfoldable pub packed : Answer → ℕ
 packed answer = answer .outcome + 256 * answer .length + 65536 * answer .cost + 4294967296 * answer .steps
+
+-- the answer that a number stands for: what packed one, taken apart
+unfoldable pub unpacked : ℕ → Answer
+unpacked n = record { outcome = n % 256; cost = n / 65536 % 65536; length = n / 256 % 256; steps = n / 4294967296 }
 
 -- what a refused rule text leaves: its outcome, no cost, no length, no steps, and a blank plan buffer
 unfoldable pub textRefused : ℕ → ℕ → Searched

@@ -1,1 +1,2 @@
-// The entries that C programs call: definitions and laws; the calls are to come.
+// The entries that C programs call.
+pub mod search_entry;

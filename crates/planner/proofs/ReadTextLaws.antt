@@ -1,0 +1,15 @@
+-- A text that the reader takes: it is read as the reading's set, which is valid, and it has no fault.
+-- Assumes nothing.
+use mathlib.Core.Path.{_≡_}
+use mathlib.Core.List.{List}
+use Prim.Native.Nat.{ℕ}
+use Rattle.model.specs.Validity.{Valid}
+use Rattle.rules.specs.Reading.{reading, ReadAs}
+use Rattle.rules.proofs.RoundTrip.{read-written}
+
+module _ (text : List ℕ) (taken : reading text .outcome ≡ 0) where
+  pub read-as : ReadAs text (reading text .set)
+  read-as = λ i. record { outcome = taken i; set = reading text .set }
+
+  pub read-valid : Valid (reading text .set)
+  read-valid = read-written text (reading text .set) read-as .0

@@ -1,0 +1,16 @@
+-- The search of a rule text as a statement.
+use mathlib.Core.Path.{_≡_}
+use mathlib.Core.Logic.{_≢_}
+use mathlib.Core.List.{List}
+use Prim.Native.Nat.{ℕ}
+use Rattle.rules.specs.Reading.{reading}
+use Rattle.queries.specs.Query.{Query}
+use Rattle.queries.specs.Searched.{Searched, SearchMeaning}
+use Rattle.planner.specs.Packed.{textRefused}
+
+-- what the search of a rule text tells and leaves
+pub record TextSearchMeaning (text : List ℕ) (query : Query) (found : Searched) : Type 0 where
+  -- of a refused text its own refusal, before all of the query's
+  pub refusedText : reading text .outcome ≢ 0 → found ≡ textRefused (reading text .outcome) (query .planSize)
+  -- of any other what a search of its set means
+  pub readText : reading text .outcome ≡ 0 → SearchMeaning (reading text .set) query found
