@@ -1,3 +1,5 @@
 pub mod PackedLaws
 pub mod ReadTextLaws
 pub mod TextSearchLaws
+pub mod PackedLengthLaws
+pub mod RewritingLaws

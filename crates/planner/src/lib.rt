@@ -1,2 +1,3 @@
 // The entries that C programs call.
+pub mod file_entries;
 pub mod search_entry;

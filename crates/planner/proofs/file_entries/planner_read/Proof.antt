@@ -1,0 +1,16 @@
+-- `planner::file_entries::planner_read` meets its contract: the reading's outcome.
+-- Assumes nothing.
+use mathlib.Core.Path.{ap}
+use borrow.Author.Needs.{needs}
+use Rattle.rules.specs.declared.Reading.{Reading}
+use Rattle.planner.proofs.file_entries.planner_read.Statement.{statement}
+use Rattle.planner.proofs.file_entries.planner_read.Tie as tie
+
+read-requires : tie.Need-read-requires
+read-requires c κs = search needs
+
+returns : tie.Need-returns
+returns c = ap (λ (file : Reading). file .outcome) (c .read .ensures)
+
+pub planner-read-spec : {M : Type 1} → statement M
+planner-read-spec = tie.close (tie.spec read-requires returns)

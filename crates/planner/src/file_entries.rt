@@ -1,0 +1,51 @@
+// The C entries of reader and writer.
+use model::buffers::fill_from;
+use rules::Written;
+ghost use mathlib.Core.Path.{_≡_};
+ghost use Prim.Native.Nat.{_/_, _%_, _<_};
+ghost use lib.ListN.{length};
+ghost use Rattle.rules.specs.Reading.{reading};
+ghost use Rattle.planner.specs.PackedLength.{packedLength};
+ghost use Rattle.planner.specs.Rewriting.{rewritten, rewrittenBuffer, packedRewritten, RewriteMeaning};
+
+// Judges a rule file, for C.
+#[no_mangle]
+pub extern "C" fn planner_read(text: &[u8]) -> u8
+    ensures { λ r. ⌜ r ≡ reading (now (text .entry)) .outcome ⌝ }
+{
+    let file = rules::read(text);
+    file.outcome
+}
+
+// Reads a rule file and writes it again; zeros alone when refused.
+pub fn rewrite(text: &[u8], out: &mut [u8]) -> Written
+    ensures { λ r. ⌜ (r ≡ rewritten (now (text .entry)) (length (now (out .entry)))) × (now (out .exit) ≡ rewrittenBuffer (now (text .entry)) (length (now (out .entry)))) × RewriteMeaning (now (text .entry)) (length (now (out .entry))) r (now (out .exit)) ⌝ }
+{
+    let file = rules::read(text);
+    let refusal = file.outcome;
+    if refusal != 0 {
+        fill_from(out, 0, 0);
+        return Written {
+            outcome: refusal,
+            length: 0,
+        };
+    }
+    rules::write(file.set, out)
+}
+
+// An outcome and a length as one number.
+fn pack_length(outcome: u8, length: usize) -> u64
+    requires { ⌜ length < 72057594037927936 ⌝ }
+    ensures { λ r. ⌜ r ≡ packedLength outcome length ⌝ }
+{
+    (outcome as u64) + 256 * (length as u64)
+}
+
+// The same for C: outcome and length are packed.
+#[no_mangle]
+pub extern "C" fn planner_rewrite(text: &[u8], out: &mut [u8]) -> u64
+    ensures { λ r. ⌜ (r ≡ packedRewritten (now (text .entry)) (length (now (out .entry)))) × (now (out .exit) ≡ rewrittenBuffer (now (text .entry)) (length (now (out .entry)))) × RewriteMeaning (now (text .entry)) (length (now (out .entry))) (record { outcome = r % 256; length = r / 256 }) (now (out .exit)) ⌝ }
+{
+    let answer = rewrite(text, out);
+    pack_length(answer.outcome, answer.length)
+}
