@@ -1,4 +1,4 @@
--- A text that the reader takes: it is read as the reading's set, which is valid, and it has no fault.
+-- A text that the reader takes is read as the reading's set, and that set is valid.
 -- Assumes nothing.
 use mathlib.Core.Path.{_≡_}
 use mathlib.Core.List.{List}

@@ -1,29 +1,62 @@
--- What the search of a rule text means; and that 7 is never its outcome, since a set that was read is valid.
+-- The search of a rule text: what it means, what it leaves without a plan, and that its answer fits the packing. 7 is never its outcome, since a set that was read is valid.
 -- Assumes nothing.
-use mathlib.Core.Path.{_≡_, sym, ap, subst}
+use mathlib.Core.Path.{_≡_, refl, sym, ap, subst}
 use mathlib.Core.Logic.{_≢_, ⊎-elim}
 use mathlib.Core.List.{List}
-use Prim.Native.Nat.{ℕ}
+use Prim.Native.Nat.{ℕ, _<_}
 use native.Mathlib.Omega.{arith}
+use lib.ListN.{replicate}
 use borrow.Author.Tests.{eq-eqb, ne-eqb}
 use Rattle.theory.proofs.TestLaws.{equal?}
 use Rattle.rules.specs.Reading.{reading}
 use Rattle.rules.proofs.RefusedLaws.{reading-bound}
 use Rattle.queries.specs.Query.{Query}
-use Rattle.queries.specs.Searched.{Searched, searched, SearchMeaning}
+use Rattle.queries.specs.Searched.{Searched, searched, noMove, SearchMeaning}
+use Rattle.queries.proofs.AnswerLaws.{outcome-bound, cost-bound, length-bound, steps-bound, searched-blank}
 use Rattle.queries.proofs.MeaningLaws.{search-meaning}
 use Rattle.planner.specs.Packed.{textRefused, searchedText}
 use Rattle.planner.specs.TextSearch.{TextSearchMeaning}
+use Rattle.planner.proofs.PackedLaws.{Fits}
 use Rattle.planner.proofs.ReadTextLaws.{read-valid}
 
 module _ (text : List ℕ) (query : Query) where
   pub refused-text : reading text .outcome ≢ 0 → searchedText text query ≡ textRefused (reading text .outcome) (query .planSize)
   unfolding searchedText
-  refused-text h = rw (ne-eqb (reading text .outcome) 0 h)
+  refused-text n = rw (ne-eqb (reading text .outcome) 0 n)
 
   pub read-text : reading text .outcome ≡ 0 → searchedText text query ≡ searched (reading text .set) query
   unfolding searchedText
   read-text h = rw (eq-eqb (reading text .outcome) 0 h)
+
+  -- what holds of both holds of the search
+  by-text : (P : Searched → Type 0) → P (searched (reading text .set) query) → P (textRefused (reading text .outcome) (query .planSize)) → P (searchedText text query)
+  by-text P r n =
+      ⊎-elim (λ h. subst P (sym (read-text h)) r) (λ k. subst P (sym (refused-text k)) n) (equal? (reading text .outcome) 0)
+
+  -- its answer fits, with a step limit of 32 bits
+  pub entry-fits : query .stepLimit < 4294967296 → Fits (searchedText text query .answer)
+  unfolding textRefused
+  entry-fits h =
+      let set = reading text .set in
+      by-text (λ found. Fits (found .answer))
+      (record {
+        outcome = omega (arith, outcome-bound set query);
+        cost = omega (arith, cost-bound set query);
+        length = omega (arith, length-bound set query);
+        steps = omega (arith, steps-bound set query, h);
+      })
+      (record { outcome = omega (arith, reading-bound text); cost = omega arith; length = omega arith; steps = omega arith })
+
+  -- demand 1: without a plan it blanks the whole plan buffer, refused texts included
+  pub entry-blank : searchedText text query .answer .outcome ≢ 0
+      → (searchedText text query .answer .cost ≡ 0) × (searchedText text query .answer .length ≡ 0) × (searchedText text query .plan ≡ replicate (query .planSize) noMove)
+  unfolding textRefused
+  entry-blank =
+      by-text (λ found. found .answer .outcome ≢ 0 → (found .answer .cost ≡ 0) × (found .answer .length ≡ 0) × (found .plan ≡ replicate (query .planSize) noMove))
+      (searched-blank (reading text .set) query)
+      (λ _. (refl, refl, refl))
+
+  -- ── What it means ──────────────────────────────────────────────────────────────────────────────
 
   pub text-search-meaning : TextSearchMeaning text query (searchedText text query)
   text-search-meaning =

@@ -13,7 +13,7 @@ use Rattle.queries.specs.declared.Answer.{Answer}
 unfoldable pub packed : Answer → ℕ
 packed answer = answer .outcome + 256 * answer .length + 65536 * answer .cost + 4294967296 * answer .steps
 
--- the answer that a number stands for: what packed one, taken apart
+-- the answer that such a number stands for: its parts again
 unfoldable pub unpacked : ℕ → Answer
 unpacked n = record { outcome = n % 256; cost = n / 65536 % 65536; length = n / 256 % 256; steps = n / 4294967296 }
 

@@ -1,4 +1,4 @@
-// The C entries of reader and writer.
+// The C entries of reader and writer, and the rewriting on its own.
 use model::buffers::fill_from;
 use rules::Written;
 ghost use mathlib.Core.Path.{_≡_};
@@ -8,13 +8,13 @@ ghost use Rattle.rules.specs.Reading.{reading};
 ghost use Rattle.planner.specs.PackedLength.{packedLength};
 ghost use Rattle.planner.specs.Rewriting.{rewritten, rewrittenBuffer, packedRewritten, RewriteMeaning};
 
-// Judges a rule file, for C.
+// Judges a rule file for C: 1 to 4, or 0.
 #[no_mangle]
 pub extern "C" fn planner_read(text: &[u8]) -> u8
     ensures { λ r. ⌜ r ≡ reading (now (text .entry)) .outcome ⌝ }
 {
-    let file = rules::read(text);
-    file.outcome
+    let judged = rules::read(text);
+    judged.outcome
 }
 
 // Reads a rule file and writes it again; zeros alone when refused.

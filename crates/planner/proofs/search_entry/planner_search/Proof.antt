@@ -9,8 +9,8 @@ use Rattle.queries.specs.Query.{Query, asked}
 use Rattle.queries.specs.Searched.{Searched}
 use Rattle.planner.specs.Packed.{packed, unpacked, searchedText, packedSearch}
 use Rattle.planner.specs.TextSearch.{TextSearchMeaning}
-use Rattle.planner.proofs.PackedLaws.{unpacked-packed, entry-fits}
-use Rattle.planner.proofs.TextSearchLaws.{text-search-meaning}
+use Rattle.planner.proofs.PackedLaws.{unpacked-packed}
+use Rattle.planner.proofs.TextSearchLaws.{entry-fits, text-search-meaning}
 use Rattle.planner.proofs.search_entry.planner_search.Statement.{statement}
 use Rattle.planner.proofs.search_entry.planner_search.Tie as tie
 
