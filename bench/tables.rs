@@ -117,12 +117,12 @@ fn main() {
         })
         .collect();
     let own = std::array::from_fn(|place| if (place as u8) < positions { place as u8 } else { 16 });
-    let all = sequences(own, &rules);
-    let mut table = vec![0; all.len()];
+    // as in the library, each build and each check composes the macros anew
+    let mut table = Vec::new();
     for _ in 0..builds {
-        table = built(&all);
+        table = built(&sequences(own, &rules));
     }
-    let passed = (0..checks).filter(|_| accepted(&all, &table)).count();
+    let passed = (0..checks).filter(|_| accepted(&sequences(own, &rules), &table)).count();
     let (mut marks, mut sum, mut sums) = (0, 0, 0);
     for entry in &table {
         marks += (*entry != KEPT) as usize;
