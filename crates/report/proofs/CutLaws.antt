@@ -1,111 +1,44 @@
 -- A text is judged by its front: what stands beyond its first 4,293 bytes changes neither what the reader gives of it nor its listing. So a buffer of that many bytes or more will do for texts of
 -- any length. Each parser of the reader is shown to use so many bytes at most and to be decided by one more.
 -- Assumes nothing.
-use mathlib.Core.Path.{_≡_, refl, sym, ap, subst, _∙_}
+use mathlib.Core.Path.{_≡_, refl, sym, ap, _∙_}
 use mathlib.Core.Logic.{⊎-elim}
 use mathlib.Core.Bool.{Bool, true, false, cond}
 use mathlib.Core.List.{List, [], _∷_, _++_, append-assoc}
 use Prim.Native.Nat.{ℕ, zero, suc, _+_, _-_, _*_, _≤_, _<_}
 use Prim.Native.String.{String}
 use native.Mathlib.Omega.{arith}
-use lib.Dec.{ltb, eqb, leb}
+use lib.Dec.{ltb, eqb}
 use lib.ListN.{length, getD, take, drop, length-append, take-append-drop}
-use lib.Seq.{take-append-add}
+use lib.Seq.{take-append-add, take-at}
 use borrow.Author.Tests.{ltb-true}
 use Rattle.theory.specs.Lists.{within, padded}
+use Rattle.theory.proofs.ListLaws.{and-split}
 use Rattle.theory.proofs.TestLaws.{below?, leb-iff, eqb-iff, and-iff, or-iff, within-iff}
 use Rattle.model.specs.Rules.{blankRule}
 use Rattle.model.specs.States.{width}
-use Rattle.model.specs.Validity.{conditionPlaced, effectPlaced, sizesValid}
+use Rattle.model.specs.Validity.{conditionPlaced, effectPlaced, wellFormed, valid}
 use Rattle.model.specs.declared.Rule.{Rule}
 use Rattle.model.specs.declared.RuleSet.{RuleSet}
+use Rattle.model.proofs.ValidityLaws.{valid-iff}
 use Rattle.rules.specs.Text.{bytes, lineFeed, numeral}
-use Rattle.rules.specs.File.{variableLetter}
-use Rattle.rules.specs.Reading.{Parsed, refused, parsed, andRead, refusedUnless, literal, isDigit, number, numberWithin, variable, constant, entry, Item, sizeItem, conditionItem, effectItem}
+use Rattle.rules.specs.File.{variableLetter, render}
+use Rattle.rules.specs.Reading.{Parsed, refused, parsed, andRead, literal, isDigit, number, numberWithin, variable, constant, entry, Item, sizeItem, conditionItem, effectItem}
 use Rattle.rules.specs.Reading.{endingOf, itemsAfter, numberLine, listLine, ruleLines, rulesAfter, ruleList, fileLines, finished, reading}
-use Rattle.rules.specs.Faults.{NumberFault, noNumber, numberOutside}
+use Rattle.rules.specs.Faults.{NumberFault, noNumber, numberOutside, leftOver}
 use Rattle.rules.proofs.ParserLaws.{not-refused, refused-first}
 use Rattle.rules.proofs.TextLaws.{by-length, ending-digit}
 use Rattle.rules.proofs.NumberLaws.{number-read, number-back}
 use Rattle.rules.proofs.FilledLaws.{small-sizes}
 use Rattle.rules.proofs.ItemFaultLaws.{number-fault}
 use Rattle.rules.proofs.FileLaws.{sizes-read}
+use Rattle.rules.proofs.RoundTrip.{accepted-iff}
+use Rattle.rules.proofs.FaultLaws.{form-iff}
+use Rattle.rules.proofs.LongestFile.{longest, longest-valid, longest-length}
 use Rattle.report.specs.Listing.{listing}
-
--- ── Parsers that are decided by the front of a text ──────────────────────────────────────────────
-
--- what is said of the first n bytes agrees with what is said of the whole text: the same refusal; or the same value, with what is left of the n bytes after those that it uses,
--- and P holds of the value and of their number
-abbrev Agrees : {A : Type 0} → (A → ℕ → Type 0) → ℕ → Parsed A → Parsed A → Type 0
-Agrees P n (refused m) cut = cut ≡ refused m
-Agrees P n (parsed a rest) cut = (used : ℕ) × P a used × (cut ≡ parsed a (take (n - used) rest))
-
--- a parser is decided by the first k bytes, and by any more
-abbrev ByFront : {A : Type 0} → (A → ℕ → Type 0) → ℕ → (List ℕ → Parsed A) → Type 0
-ByFront P k p = (text : List ℕ) (n : ℕ) → k ≤ n → Agrees P n (p text) (p (take n text))
-
--- a value with as many of the bytes left
-left-same : {A : Type 0} (a : A) (rest : List ℕ) (m n : ℕ) → m ≡ n → parsed a (take m rest) ≡ parsed a (take n rest)
-left-same a rest m n e = ap (λ m. parsed a (take m rest)) e
-
-module _ {A : Type 0} (P Q : A → ℕ → Type 0) (weak : (a : A) (u : ℕ) → P a u → Q a u) where
-  agrees-weak : (n : ℕ) (q cut : Parsed A) → Agrees P n q cut → Agrees Q n q cut
-  agrees-weak n (refused m) cut e = e
-  agrees-weak n (parsed a rest) cut w = (w .0, weak a (w .0) (w .1), w .2)
-
-  -- by more bytes, with less said of the value
-  weaker : (k K : ℕ) (p : List ℕ → Parsed A) → k ≤ K → ByFront P k p → ByFront Q K p
-  weaker k K p h front text n b = agrees-weak n (p text) (p (take n text)) (front text n (omega arith))
-
--- a value that uses no byte
-value-front : {A : Type 0} (P : A → ℕ → Type 0) (k : ℕ) (a : A) → P a 0 → ByFront P k (λ text. parsed a text)
-value-front P k a h text n b = (0, h, left-same a text n (n - 0) (omega arith))
-
--- what is read always holds of the value too
-also-front : {A : Type 0} (P : A → ℕ → Type 0) (Q : A → Type 0) (k : ℕ) (p : List ℕ → Parsed A) → ((text : List ℕ) (a : A) (rest : List ℕ) → p text ≡ parsed a rest → Q a)
-    → ByFront P k p → ByFront (λ a u. Q a × P a u) k p
-also-front {A} P Q k p holds front text n b = go (p text) refl (front text n b)
-  where
-    go : (q : Parsed A) → p text ≡ q → Agrees P n q (p (take n text)) → Agrees (λ a u. Q a × P a u) n q (p (take n text))
-    go (refused m) e w = w
-    go (parsed a rest) e w = (w .0, (holds text a rest e, w .1), w .2)
-
--- behind one more byte
-behind-one : {A : Type 0} (P Q : A → ℕ → Type 0) → ((a : A) (u : ℕ) → P a u → Q a (suc u)) → (n : ℕ) (q cut : Parsed A) → Agrees P n q cut → Agrees Q (suc n) q cut
-behind-one P Q more n (refused m) cut e = e
-behind-one P Q more n (parsed a rest) cut w = (suc (w .0), more a (w .0) (w .1), w .2 ∙ left-same a rest (n - w .0) (suc n - suc (w .0)) (omega arith))
-
--- one part after another
-module _ {A B : Type 0} (P : A → ℕ → Type 0) (R : B → ℕ → Type 0) (k K : ℕ) (p : List ℕ → Parsed A) (next : A → List ℕ → Parsed B) where
-  shifted : (u n : ℕ) (q cut : Parsed B) → Agrees (λ b w. R b (u + w)) (n - u) q cut → Agrees R n q cut
-  shifted u n (refused m) cut e = e
-  shifted u n (parsed b rest) cut w = (u + w .0, w .1, w .2 ∙ left-same b rest (n - u - w .0) (n - (u + w .0)) (omega arith))
-
-  then-front : ByFront P k p → k ≤ K → ((a : A) (u : ℕ) → P a u → ByFront (λ b w. R b (u + w)) (K - u) (next a)) → ByFront R K (λ text. andRead (p text) next)
-  then-front first h second text n b = go (p text) (first text n (omega arith))
-    where
-      go : (q : Parsed A) → Agrees P n q (p (take n text)) → Agrees R n (andRead q next) (andRead (p (take n text)) next)
-      go (refused m) e = ap (λ q. andRead q next) e
-      go (parsed a rest) w =
-          subst (λ q. Agrees R n (next a rest) (andRead q next)) (sym (w .2))
-          (shifted (w .0) n (next a rest) (next a (take (n - w .0) rest)) (second a (w .0) (w .1) rest (n - w .0) (omega arith)))
-
--- a value that is judged by a test
-judged-front : {A : Type 0} (P : A → ℕ → Type 0) (m k : ℕ) (test : A → Bool) (p : List ℕ → Parsed A) → ByFront P k p
-    → ByFront (λ a u. (test a ≡ true) × P a u) k (λ text. refusedUnless m test (p text))
-judged-front {A} P m k test p front =
-    then-front P (λ a u. (test a ≡ true) × P a u) k k p (λ a rest. cond (test a) (parsed a rest) (refused m)) front (omega arith) (λ a u h rest n b. go a u h rest n (test a) refl)
-  where
-    go : (a : A) (u : ℕ) → P a u → (rest : List ℕ) (n : ℕ) (t : Bool) → test a ≡ t
-        → Agrees (λ b w. (test b ≡ true) × P b (u + w)) n (cond t (parsed a rest) (refused m)) (cond t (parsed a (take n rest)) (refused m))
-    go a u h rest n true e = (0, (e, subst (P a) {x = u} {y = u + 0} (omega arith) h), left-same a rest n (n - 0) (omega arith))
-    go a u h rest n false e = refl
+use Rattle.report.proofs.FrontLaws.{Agrees, ByFront, Within, weaker, value-front, also-front, behind-one, then-front, judged-front}
 
 -- ── Words and numbers ────────────────────────────────────────────────────────────────────────────
-
--- so many bytes at most
-abbrev Within : {A : Type 0} → ℕ → A → ℕ → Type 0
-Within c a u = u ≤ c
 
 -- a word
 word-front : (word : List ℕ) → ByFront (Within (length word)) (length word) (literal word)
@@ -129,10 +62,10 @@ digits-used m =
     (λ h. (omega arith, λ k. absurd (omega arith), λ k. absurd (omega arith)))
 
 -- with the byte that ends it
-pub record NumberUse (m u : ℕ) : Type 0 where
-  pub most : u ≤ 4
-  pub two : m < 100 → u ≤ 3
-  pub one : m < 10 → u ≤ 2
+record NumberUse (m u : ℕ) : Type 0 where
+  most : u ≤ 4
+  two : m < 100 → u ≤ 3
+  one : m < 10 → u ≤ 2
 
 -- an entry with the byte that ends it: up to x9 a byte less
 abbrev EntryUse : ℕ → ℕ → Type 0
@@ -399,3 +332,13 @@ reading-cut text n h = go (fileLines text) (fileLines (take n text)) (file-front
 pub listing-cut : (text : List ℕ) (n : ℕ) → 4293 ≤ n → listing (take n text) ≡ listing text
 unfolding listing
 listing-cut text n h = rw (reading-cut text n h)
+
+-- no fewer bytes would do: the longest file with a byte left over is refused, and its first 4,292 bytes are read
+pub cut-least : (text : List ℕ) × (reading (take 4292 text) .outcome ≡ 0) × (reading text .outcome ≡ 1)
+unfolding valid
+cut-least =
+    let text = render longest ++ (lineFeed ∷ []) in (
+      text,
+      accepted-iff (take 4292 text) .1 (longest, valid-iff longest .0 longest-valid, take-at (render longest) (lineFeed ∷ []) 4292 longest-length),
+      form-iff text .1 (leftOver refl longest lineFeed [] (and-split (wellFormed longest) _ longest-valid .0) refl),
+    )
