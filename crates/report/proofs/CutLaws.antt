@@ -1,5 +1,5 @@
 -- A text is judged by its front: what stands beyond its first 4,293 bytes changes neither what the reader gives of it nor its listing. So a buffer of that many bytes or more will do for texts of
--- any length. Each parser of the reader is shown to use so many bytes at most and to be decided by one more.
+-- any length. Each parser of the reader is shown to be decided by so many bytes, and to use so many at most.
 -- Assumes nothing.
 use mathlib.Core.Path.{_≡_, refl, sym, ap, _∙_}
 use mathlib.Core.Logic.{⊎-elim}
@@ -61,13 +61,13 @@ digits-used m =
     (λ h _. (omega arith, λ _. omega arith, λ k. absurd (omega arith)))
     (λ h. (omega arith, λ k. absurd (omega arith), λ k. absurd (omega arith)))
 
--- with the byte that ends it
+-- the bytes that a number uses, with the one that ends it
 record NumberUse (m u : ℕ) : Type 0 where
   most : u ≤ 4
   two : m < 100 → u ≤ 3
   one : m < 10 → u ≤ 2
 
--- an entry with the byte that ends it: up to x9 a byte less
+-- those that an entry uses, with the one that ends it: up to x9 one less
 abbrev EntryUse : ℕ → ℕ → Type 0
 EntryUse e u = (u ≤ 4) × (e < 25 → u ≤ 3)
 
@@ -242,22 +242,22 @@ sizes-line-front positions some few =
     each before ending inside digit =
         weaker (Within 3) (λ _ u. 3 * length before + u ≤ 3 * suc (length before)) (λ _ u h. omega arith) 4 (49 - 3 * length before) (sizeItem before ending) (omega arith) (size-front before ending digit)
 
--- where the entry at place i of an `if` line starts at most
-abbrev start : ℕ → ℕ
-start i = 3 * i + (i - 9)
+-- the bytes of an `if` line's list before the entry at place i, at most
+abbrev ifStart : ℕ → ℕ
+ifStart i = 3 * i + (i - 9)
 
 module _ (positions : ℕ) (sizes : List ℕ) (few : positions ≤ 16) (small : (i : ℕ) → i < positions → getD sizes i 0 ≤ 16) where
   -- the `if` line: 58 bytes
   if-line-front : ByFront (Within 58) 59 (listLine "if=" (conditionItem positions sizes) positions)
   if-line-front =
-      weaker (Within (3 + start positions)) (Within 58) (λ _ u h. omega arith) 59 59 (listLine "if=" (conditionItem positions sizes) positions) (omega arith)
-      (list-line-front (conditionItem positions sizes) start 56 positions each "if=" (omega arith))
+      weaker (Within (3 + ifStart positions)) (Within 58) (λ _ u h. omega arith) 59 59 (listLine "if=" (conditionItem positions sizes) positions) (omega arith)
+      (list-line-front (conditionItem positions sizes) ifStart 56 positions each "if=" (omega arith))
     where
       each : (before : List ℕ) (ending : ℕ) → length before < positions → isDigit ending ≡ false
-          → ByFront (λ _ u. start (length before) + u ≤ start (suc (length before))) (56 - start (length before)) (conditionItem positions sizes before ending)
+          → ByFront (λ _ u. ifStart (length before) + u ≤ ifStart (suc (length before))) (56 - ifStart (length before)) (conditionItem positions sizes before ending)
       each before ending inside digit =
-          weaker (λ _ u. (u ≤ 4) × (length before < 9 → u ≤ 3)) (λ _ u. start (length before) + u ≤ start (suc (length before)))
-          (λ _ u h. ⊎-elim (λ k. omega (arith, h .1 k)) (λ k. omega arith) (below? (length before) 9)) 5 (56 - start (length before)) (conditionItem positions sizes before ending) (omega arith)
+          weaker (λ _ u. (u ≤ 4) × (length before < 9 → u ≤ 3)) (λ _ u. ifStart (length before) + u ≤ ifStart (suc (length before)))
+          (λ _ u h. ⊎-elim (λ k. omega (arith, h .1 k)) (λ k. omega arith) (below? (length before) 9)) 5 (56 - ifStart (length before)) (conditionItem positions sizes before ending) (omega arith)
           (condition-front positions sizes few small before ending inside digit)
 
   -- the `then` line: 69 bytes
@@ -328,7 +328,7 @@ reading-cut text n h = go (fileLines text) (fileLines (take n text)) (file-front
     go (refused m) cut e = ap finished e
     go (parsed set rest) cut w = ap finished (w .2) ∙ ends set rest (n - w .0) (omega arith)
 
--- and so does the listing
+-- so a text has the listing of its first n bytes
 pub listing-cut : (text : List ℕ) (n : ℕ) → 4293 ≤ n → listing (take n text) ≡ listing text
 unfolding listing
 listing-cut text n h = rw (reading-cut text n h)
