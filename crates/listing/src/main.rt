@@ -1,0 +1,43 @@
+// The listing program: reads a rule file on standard input and prints the marks of its table for reach 2.
+use libc::STDIN_FILENO;
+use libc::STDOUT_FILENO;
+ghost use Prim.Native.Nat.{ℕ, _≤_};
+ghost use mathlib.Core.Path.{_≡_};
+ghost use mathlib.Core.List.{List};
+ghost use lib.ListN.{length, take};
+ghost use Rattle.io.specs.Counts.{Counts};
+ghost use Rattle.report.specs.Listing.{listing};
+
+// Puts the listing into a buffer that every listing fits: its length. The text is the first 65,536 bytes of the input, or all of them; what stands beyond them plays no part.
+fn listed(text: &[u8], out: &mut [u8]) -> usize
+    requires { ⌜ 20859 ≤ length (now out) ⌝ }
+    ensures { λ r. ⌜ Counts r (now (out .exit)) ⌝ }
+    ensures { λ r. ⌜ ((input : List ℕ) → now (text .entry) ≡ take 65536 input → take r (now (out .exit)) ≡ listing input) ⌝ }
+{
+    report::report(text, out)
+}
+
+// Reads on, and answers whether more may follow.
+fn skip_some() -> bool {
+    let mut rest = io::large_buffer();
+    io::read_full(STDIN_FILENO, &mut rest) == 65536
+}
+
+// Reads the rest of the input, so that whoever writes it can end. Nothing says that an input ends, so the loop counts its turns down, from a number that no run uses up.
+fn skip_rest() {
+    let mut turns = u64::MAX;
+    while turns > 0 && skip_some() {
+        turns -= 1;
+    }
+}
+
+fn main() {
+    let mut text = io::large_buffer();
+    let n = io::read_full(STDIN_FILENO, &mut text);
+    let mut out = io::large_buffer();
+    let length = listed(&text[..n], &mut out);
+    io::write_all(STDOUT_FILENO, &out[..length]);
+    if n == 65536 {
+        skip_rest();
+    }
+}
