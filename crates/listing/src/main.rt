@@ -8,11 +8,12 @@ ghost use lib.ListN.{length, take};
 ghost use Rattle.io.specs.Counts.{Counts};
 ghost use Rattle.report.specs.Listing.{listing};
 
-// Puts the listing into a buffer that every listing fits: its length. The text is the first 65,536 bytes of the input, or all of them; what stands beyond them plays no part.
+// Puts the listing into a buffer that every listing fits: its length. Where the text is the front of an input, of 4,293 bytes or more, this is the listing of the whole input: what stands
+// beyond plays no part.
 fn listed(text: &[u8], out: &mut [u8]) -> usize
     requires { ⌜ 20859 ≤ length (now out) ⌝ }
     ensures { λ r. ⌜ Counts r (now (out .exit)) ⌝ }
-    ensures { λ r. ⌜ ((input : List ℕ) → now (text .entry) ≡ take 65536 input → take r (now (out .exit)) ≡ listing input) ⌝ }
+    ensures { λ r. ⌜ ((input : List ℕ) (n : ℕ) → 4293 ≤ n → now (text .entry) ≡ take n input → take r (now (out .exit)) ≡ listing input) ⌝ }
 {
     report::report(text, out)
 }
@@ -31,6 +32,7 @@ fn skip_rest() {
     }
 }
 
+// The input's first 65,536 bytes are enough, by `listed`.
 fn main() {
     let mut text = io::large_buffer();
     let n = io::read_full(STDIN_FILENO, &mut text);

@@ -1,4 +1,4 @@
--- `listing::listed` meets its contract: a listing has at most 20,859 bytes, and an input has that of its first 65,536 bytes.
+-- `listing::listed` meets its contract: a listing has at most 20,859 bytes, and an input has that of its front.
 -- Assumes nothing.
 use mathlib.Core.Path.{_≡_, sym, ap, _∙_}
 use mathlib.Core.List.{List}
@@ -19,7 +19,7 @@ use Rattle.listing.proofs.listed.Tie as tie
 shown : (text : List ℕ) (room r : ℕ) (out : List ℕ) → 20859 ≤ room → r ≡ reportLength text room → out ≡ reported text room → (r ≤ length out) × (take r out ≡ listing text)
 shown text room r out wide p q =
     let w = report-fits text room (omega (arith, listing-bound text)) in
-    let blank = replicate (room - length (listing text)) 0 in
+    let blank = replicate {A = ℕ} (room - length (listing text)) 0 in
     rw (p ∙ w .0, q ∙ w .1) (omega (arith, length-append (listing text) blank), take-append-seam (listing text) blank)
 
 report-requires : tie.Need-report-requires
@@ -32,7 +32,7 @@ returns : tie.Need-returns
 returns c =
     let called = c .before .before .report in
     let w = shown _ _ (called .result) (called .last .1 .0) (omega arith) (called .ensures .0) (called .ensures .1) in
-    ((w .0, sym (length-take-le _ _ (w .0))), λ input e. w .1 ∙ ap listing e ∙ listing-cut input _ (omega arith))
+    ((w .0, sym (length-take-le _ _ (w .0))), λ input n h e. w .1 ∙ ap listing e ∙ listing-cut input n (omega arith))
 
 pub listed-spec : {M : Type 1} → statement M
 listed-spec = tie.close (tie.spec report-requires same-length returns)
