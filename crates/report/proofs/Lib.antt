@@ -1,2 +1,8 @@
 pub mod FrontLaws
 pub mod CutLaws
+pub mod SequenceTextLaws
+pub mod MarkLaws
+pub mod LengthLaws
+pub mod ReportLaws
+pub mod OverlayLaws
+pub mod MarkLoopLaws

@@ -1,0 +1,55 @@
+-- `report::marks::put_entry` meets its contract: nothing, or two lines, laid one after the other.
+-- Assumes nothing.
+use native.Mathlib.Omega.{arith}
+use borrow.Author.Needs.{needs}
+use Rattle.rules.proofs.OverlayLaws.{laid-append}
+use Rattle.report.proofs.OverlayLaws.{laid-none}
+use Rattle.report.proofs.MarkLoopLaws.{entry-kept, entry-marked, entry-length}
+use Rattle.report.proofs.marks.put_entry.Statement.{statement}
+use Rattle.report.proofs.marks.put_entry.Tie as tie
+
+returns : tie.Need-returns
+returns c =
+    let s = c .before .before .args in
+    rw (entry-kept (s .count) (s .index) (s .entry) (c .if1 .taken)) (laid-none _ _)
+
+slice-aggregate-put-sequence-line : tie.Need-slice-aggregate-put-sequence-line
+slice-aggregate-put-sequence-line c = search needs
+
+put-sequence-line-requires : tie.Need-put-sequence-line-requires
+put-sequence-line-requires c κs =
+    let s = c .before .before .before .before in
+    (s .pre .0, s .pre .1, s .pre .2, omega (arith, entry-length (s .args .count) (s .args .index) (s .args .entry) (c .before .before .if1 .left)))
+
+slice-aggregate-put-sequence-line-2 : tie.Need-slice-aggregate-put-sequence-line-2
+slice-aggregate-put-sequence-line-2 c = search needs
+
+put-sequence-line-requires-2 : tie.Need-put-sequence-line-requires-2
+put-sequence-line-requires-2 c κs =
+    let branch = c .before .before .before .before .before .before .before in
+    let s = branch .before .before in
+    let h = branch .if1 .left in
+    (s .pre .0, s .pre .1, omega (arith, s .pre .3 h), omega (arith, entry-length (s .args .count) (s .args .index) (s .args .entry) h))
+
+same-length : tie.Need-same-length
+same-length c = search needs
+
+returns-2 : tie.Need-returns-2
+returns-2 c =
+    let witness = c .before .before in
+    let own = witness .before .before .before .before .before in
+    let branch = own .before .before .before in
+    let s = branch .before .before .args in
+    rw (entry-marked (s .count) (s .index) (s .entry) (branch .if1 .left)) (laid-append (own .put-sequence-line .ensures) (witness .put-sequence-line2 .ensures))
+
+pub put-entry-spec : {M : Type 1} → statement M
+put-entry-spec =
+    tie.close
+    (tie.spec
+    returns
+    slice-aggregate-put-sequence-line
+    put-sequence-line-requires
+    slice-aggregate-put-sequence-line-2
+    put-sequence-line-requires-2
+    same-length
+    returns-2)

@@ -1,0 +1,77 @@
+-- `report::marks::put_marks` meets its contract. The invariant: the lines of the entries from place i on remain.
+-- Assumes nothing.
+use mathlib.Core.Path.{_≡_, sym, ap, _∙_, subst}
+use Prim.Native.Nat.{_-_, _/_, _≤_, _<_}
+use native.Mathlib.Omega.{arith}
+use lib.ListN.{length, length-append}
+use borrow.Author.Needs.{needs}
+use Rattle.rules.proofs.OverlayLaws.{Remains, remains-all, remains-length, remains-none, remains-rest}
+use Rattle.report.specs.Marks.{marksText}
+use Rattle.report.proofs.MarkLoopLaws.{linesFrom, lines-all, lines-more, lines-end}
+use Rattle.report.proofs.marks.put_marks.Statement.{statement}
+use Rattle.report.proofs.marks.put_marks.Tie as tie
+
+abbrev Inv-loop : tie.InvT-loop
+Inv-loop text₀ at count table entries next₀ i₀ text next i = (i ≤ length table / 2) × Remains at (marksText count table) text₀ next (linesFrom table count i) text
+
+abbrev μ-loop : tie.MeasureT-loop
+μ-loop text₀ at count table entries next₀ i₀ text next i = length table / 2 - i
+
+loop-holds : tie.Need-loop-holds Inv-loop μ-loop
+loop-holds c =
+    let s = c .before .before .args in
+    (omega arith, rw (lines-all (s .table .now) (s .count)) (remains-all _ _ _))
+
+entry-at-requires : tie.Need-entry-at-requires Inv-loop μ-loop
+entry-at-requires c κs = omega arith
+
+put-entry-requires : tie.Need-put-entry-requires Inv-loop μ-loop
+put-entry-requires c κs =
+    let s = c .before .before .before .before .before .before in
+    let l = c .before .before .before .loop in
+    let table = s .args .table .now in
+    let e = c .before .entry-at .ensures in (
+      s .pre .0,
+      s .pre .1,
+      omega arith,
+      λ m. subst (λ n. n < l .i) (sym e) (s .pre .3 (l .i) (omega arith) (λ k. m (e ∙ k))),
+      omega (arith, simp length-append at (ap length (lines-more table (s .args .count) (l .i) _ (c .before .before .loop-test .taken) e))),
+    )
+
+add-i : tie.Need-add-i Inv-loop μ-loop
+add-i c = omega arith
+
+loop-less : tie.Need-loop-less Inv-loop μ-loop
+loop-less c = omega arith
+
+loop-again : tie.Need-loop-again Inv-loop μ-loop
+loop-again c =
+    let laid = c .before .before in
+    let read = laid .before .before in
+    let turn = read .before in
+    let l = turn .before .loop in
+    let s = turn .before .before .before .before in
+    (omega arith, remains-rest (l .inv .1) _ _ (lines-more (s .args .table .now) (s .args .count) (l .i) _ (turn .loop-test .taken) (read .entry-at .ensures)) (laid .put-entry .ensures))
+
+same-length : tie.Need-same-length Inv-loop μ-loop
+same-length c = remains-length (c .before .loop .inv .1)
+
+returns : tie.Need-returns Inv-loop μ-loop
+returns c =
+    let s = c .before .before .before .before .args in
+    remains-none (c .before .loop .inv .1) (lines-end (s .table .now) (s .count) (c .before .loop .i) (c .loop-test .left))
+
+pub put-marks-spec : {M : Type 1} → statement M
+put-marks-spec =
+    tie.close
+    (tie.spec
+    Inv-loop
+    μ-loop
+    loop-holds
+    entry-at-requires
+    put-entry-requires
+    add-i
+    loop-less
+    loop-again
+    same-length
+    returns)

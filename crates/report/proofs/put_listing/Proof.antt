@@ -1,0 +1,51 @@
+-- `report::put_listing` meets its contract: one line for a refused text, the listing of its set for another.
+-- Assumes nothing.
+use mathlib.Core.List.{[], _∷_}
+use native.Mathlib.Omega.{arith}
+use lib.ListN.{length, length-append}
+use borrow.Author.Tests.{eq-eqb, ne-eqb}
+use borrow.Author.Needs.{needs}
+use Rattle.rules.specs.Text.{lineFeed, numeral, line}
+use Rattle.report.proofs.LengthLaws.{numeral-length}
+use Rattle.report.proofs.put_listing.Statement.{statement}
+use Rattle.report.proofs.put_listing.Tie as tie
+
+slice-aggregate-put-number-line : tie.Need-slice-aggregate-put-number-line
+slice-aggregate-put-number-line c = search needs
+
+put-number-line-requires : tie.Need-put-number-line-requires
+put-number-line-requires c κs =
+    let s = c .before .before .before .before in
+    (omega (arith, s .good .1 .0), omega (arith, length-append (numeral (s .args .outcome)) (lineFeed ∷ []), numeral-length (s .args .outcome) .0))
+
+same-length : tie.Need-same-length
+same-length c = search needs
+
+returns : tie.Need-returns
+unfolding line
+returns c =
+    let branch = c .before .before .before .before .before in
+    rw (ne-eqb (branch .before .before .args .outcome) 0 (branch .if1 .taken)) (c .before .before .put-number-line .ensures)
+
+put-set-requires : tie.Need-put-set-requires
+put-set-requires c κs = c .before .before .before .pre (c .before .if1 .left)
+
+same-length-2 : tie.Need-same-length-2
+same-length-2 c = search needs
+
+returns-2 : tie.Need-returns-2
+returns-2 c =
+    let branch = c .before .before .before .before in
+    rw (eq-eqb (branch .before .before .args .outcome) 0 (branch .if1 .left)) (c .before .before .put-set .ensures)
+
+pub put-listing-spec : {M : Type 1} → statement M
+put-listing-spec =
+    tie.close
+    (tie.spec
+    slice-aggregate-put-number-line
+    put-number-line-requires
+    same-length
+    returns
+    put-set-requires
+    same-length-2
+    returns-2)

@@ -1,0 +1,84 @@
+-- `report::report` meets its contract: what either way out gives and leaves is the definitions', which have their meaning.
+-- Assumes nothing.
+use mathlib.Core.Path.{_≡_, refl, sym, ap, _∙_}
+use mathlib.Core.Bool.{cond}
+use mathlib.Core.List.{List, [], _∷_}
+use Prim.Native.Nat.{ℕ}
+use native.Mathlib.Omega.{arith}
+use lib.Dec.{eqb}
+use lib.ListN.{length, replicate}
+use borrow.Author.Needs.{needs}
+use Rattle.model.proofs.BufferLaws.{filled-whole}
+use Rattle.rules.specs.Text.{numeral, line}
+use Rattle.rules.specs.Reading.{reading}
+use Rattle.rules.specs.declared.Reading.{Reading}
+use Rattle.rules.proofs.OverlayLaws.{laid-length, zeros-laid}
+use Rattle.report.specs.Listing.{listingOf, listing}
+use Rattle.report.specs.Report.{reportLength, reported, ReportMeaning}
+use Rattle.report.proofs.LengthLaws.{read-valid}
+use Rattle.report.proofs.ReportLaws.{report-fits, report-short, report-meaning}
+use Rattle.report.proofs.report.Statement.{statement}
+use Rattle.report.proofs.report.Tie as tie
+
+-- the listing, by what reading the text gave
+listed : (text : List ℕ) (r : Reading) → r ≡ reading text → cond (eqb (r .outcome) 0) (listingOf (r .set)) (line "refused=" (numeral (r .outcome) ∷ [])) ≡ listing text
+unfolding listing
+listed text r e = rw e
+
+-- the definitions' length and buffer have their meaning
+answers : (text : List ℕ) (room r : ℕ) (out : List ℕ) → r ≡ reportLength text room → out ≡ reported text room
+    → (r ≡ reportLength text room) × (out ≡ reported text room) × ReportMeaning text room r out
+answers text room r out e t = (e, t, rw (e, t) (report-meaning text room))
+
+read-requires : tie.Need-read-requires
+read-requires c κs = search needs
+
+put-listing-requires : tie.Need-put-listing-requires
+put-listing-requires c κs = read-valid (c .before .before .before .before .args .text .now) (c .before .read .result) (c .before .read .ensures)
+
+fill-from-requires : tie.Need-fill-from-requires
+fill-from-requires c κs = search needs
+
+same-length : tie.Need-same-length
+same-length c = search needs
+
+returns : tie.Need-returns
+returns c =
+    let file = c .before .before .before .before .before .before .before in
+    let read = file .before .before in
+    let s = read .before .before .before .args in
+    let text = s .text .now in
+    let laid = rw (listed text (read .read .result) (read .read .ensures)) at (file .put-listing .ensures) in
+    let same = laid-length laid in
+    let w = report-short text (length (s .out .now)) (omega arith) in
+    answers text (length (s .out .now)) _ _ (sym (w .0)) (c .before .before .fill-from .ensures ∙ filled-whole 0 _ ∙ ap (λ n. replicate n 0) same ∙ sym (w .1))
+
+fill-from-requires-2 : tie.Need-fill-from-requires-2
+fill-from-requires-2 c κs = search needs
+
+same-length-2 : tie.Need-same-length-2
+same-length-2 c = search needs
+
+returns-2 : tie.Need-returns-2
+returns-2 c =
+    let file = c .before .before .before .before .before .before .before in
+    let read = file .before .before in
+    let s = read .before .before .before .args in
+    let text = s .text .now in
+    let laid = rw (listed text (read .read .result) (read .read .ensures)) at (file .put-listing .ensures) in
+    let same = laid-length laid in
+    let w = report-fits text (length (s .out .now)) (omega arith) in
+    answers text (length (s .out .now)) _ _ (omega (arith, laid .place, w .0)) (c .before .before .fill-from2 .ensures ∙ zeros-laid laid (omega arith) ∙ sym (w .1))
+
+pub report-spec : {M : Type 1} → statement M
+report-spec =
+    tie.close
+    (tie.spec
+    read-requires
+    put-listing-requires
+    fill-from-requires
+    same-length
+    returns
+    fill-from-requires-2
+    same-length-2
+    returns-2)
