@@ -2,16 +2,16 @@
 -- Assumes nothing.
 use mathlib.Core.Path.{_≡_, refl, sym, ap, _∙_}
 use mathlib.Core.Bool.{Bool, true, false, not, cond}
-use mathlib.Core.List.{List, [], _∷_, List·Memᴰ·tail}
-use Prim.Native.Nat.{ℕ, zero, suc, _+_, _*_, _≤_, _<_}
+use mathlib.Core.List.{List, [], _∷_}
+use Prim.Native.Nat.{ℕ, zero, suc, _+_, _≤_, _<_}
 use Prim.Native.String.{String}
 use native.Mathlib.Omega.{arith}
 use lib.Dec.{eqb}
 use lib.ListN.{length, length-append}
 use borrow.Author.Tests.{eqb-true, eq-eqb}
-use Rattle.theory.specs.Lists.{_∈_, keepIf, keep, flat, numbersFrom}
+use Rattle.theory.specs.Lists.{_∈_, keep, numbersFrom}
 use Rattle.theory.specs.Sequences.{Sequence, Numbered}
-use Rattle.theory.proofs.ListLaws.{here, length-numbersFrom}
+use Rattle.theory.proofs.ListLaws.{length-numbersFrom}
 use Rattle.model.specs.Validity.{Valid}
 use Rattle.model.specs.declared.RuleSet.{RuleSet}
 use Rattle.rules.specs.Text.{bytes, comma, numeral, commaList, line}
@@ -23,6 +23,7 @@ use Rattle.tables.specs.Table.{tableEntries, sequenceAt, kept, builtEntry, buil
 use Rattle.tables.proofs.CountLaws.{count-prefix}
 use Rattle.tables.proofs.TableLaws.{index-sequence, sequence-index, accepted-iff, built-entry, built-least, built-accepted}
 use Rattle.report.specs.Listing.{listedReach, sequenceItems, markedIndices, markLines, listingOf, listing}
+use Rattle.report.proofs.ListLaws.{keep-length, flat-length}
 use Rattle.report.proofs.MarkLaws.{marked-entry-iff}
 
 -- ── Numbers, sequences and lines ─────────────────────────────────────────────────────────────────
@@ -46,22 +47,6 @@ sequence-length m few (a ∷ []) h n = omega (arith, numeral-length a .1 (omega 
 sequence-length m few (a ∷ b ∷ []) h n =
     omega (arith, length-append (numeral a) (comma ∷ numeral b), numeral-length a .1 (omega (arith, n .1)), numeral-length b .1 (omega (arith, n .2 .1)))
 sequence-length m few (a ∷ b ∷ c ∷ q) h n = absurd (omega arith)
-
--- ── Lists ────────────────────────────────────────────────────────────────────────────────────────
-
--- no more elements pass than there are
-keep-length : {A : Type 0} (p : A → Bool) (l : List A) → length (keep p l) ≤ length l
-keep-length p [] = omega arith
-keep-length p (x ∷ l) = go (p x) (keep-length p l)
-  where
-    go : (b : Bool) → length (keep p l) ≤ length l → length (keepIf b x (keep p l)) ≤ suc (length l)
-    go true h = omega arith
-    go false h = omega arith
-
--- each element of a list gives at most b elements
-flat-length : {A B : Type 0} (f : A → List B) (b : ℕ) (l : List A) → ((a : A) → a ∈ l → length (f a) ≤ b) → length (flat f l) ≤ length l * b
-flat-length f b [] h = omega arith
-flat-length f b (x ∷ l) h = omega (arith, length-append (f x) (flat f l), h x (here x l), flat-length f b l (λ a d. h a (List·Memᴰ·tail d)))
 
 -- ── Marks ────────────────────────────────────────────────────────────────────────────────────────
 

@@ -1,17 +1,17 @@
 -- The marks of a listing: which indices they are, and that the built table's bytes give the same listing.
 -- Assumes nothing.
-use mathlib.Core.Path.{_≡_, refl, sym, ap, ap₂, _∙_, subst}
+use mathlib.Core.Path.{_≡_, refl, sym, ap, _∙_, subst}
 use mathlib.Core.Logic.{_↔_, _≢_}
 use mathlib.Core.Bool.{Bool, true, false, not, cond}
-use mathlib.Core.List.{List, [], _∷_, _++_, List·Memᴰ·tail}
-use Prim.Native.Nat.{ℕ, zero, suc, _/_, _≤_, _<_}
+use mathlib.Core.List.{[]}
+use Prim.Native.Nat.{ℕ, _/_, _≤_, _<_}
 use native.Mathlib.Omega.{arith}
 use lib.Dec.{eqb}
 use lib.ListN.{length}
 use borrow.Author.Tests.{eqb-false}
-use Rattle.theory.specs.Lists.{_∈_, keepIf, keep, Pairwise, flat, numbersFrom}
+use Rattle.theory.specs.Lists.{_∈_, Pairwise, flat, numbersFrom}
 use Rattle.theory.specs.Sequences.{Sequence}
-use Rattle.theory.proofs.ListLaws.{here, in-keep, of-keep, flat-same, pairwise-keep, of-numbersFrom, in-numbersFrom}
+use Rattle.theory.proofs.ListLaws.{in-keep, of-keep, flat-same, pairwise-keep, of-numbersFrom, in-numbersFrom}
 use Rattle.theory.proofs.TestLaws.{eqb-iff, not-iff}
 use Rattle.model.specs.declared.RuleSet.{RuleSet}
 use Rattle.rules.specs.Text.{line}
@@ -20,27 +20,8 @@ use Rattle.tables.proofs.TableLaws.{sequence-index, built-entry, built-length, 
 use Rattle.report.specs.Listing.{markedIndices, markLines, listingOf}
 use Rattle.report.specs.Report.{Listed}
 use Rattle.report.specs.Marks.{marks, tableMarks, MarksEarlier, markText, entryLines, marksText, tableText}
+use Rattle.report.proofs.ListLaws.{keep-same, flat-keep, increase}
 use Rattle.report.proofs.SequenceTextLaws.{text-at}
-
--- ── Lists ────────────────────────────────────────────────────────────────────────────────────────
-
--- two tests that agree on the list
-keep-same : {A : Type 0} (p q : A → Bool) (l : List A) → ((a : A) → a ∈ l → p a ≡ q a) → keep p l ≡ keep q l
-keep-same p q [] h = refl
-keep-same p q (x ∷ l) h = ap₂ (λ b r. keepIf b x r) (h x (here x l)) (keep-same p q l (λ a d. h a (List·Memᴰ·tail d)))
-
--- the lists of the elements that pass, one after the other
-flat-keep : {A B : Type 0} (p : A → Bool) (f : A → List B) (l : List A) → flat (λ a. cond (p a) (f a) []) l ≡ flat f (keep p l)
-flat-keep p f [] = refl
-flat-keep {A} {B} p f (x ∷ l) = go (p x) (flat-keep p f l)
-  where
-    go : (b : Bool) → flat (λ a. cond (p a) (f a) []) l ≡ flat f (keep p l) → cond b (f x) [] ++ flat (λ a. cond (p a) (f a) []) l ≡ flat f (keepIf b x (keep p l))
-    go true e = ap (λ r. f x ++ r) e
-    go false e = e
-
-increase : (i n : ℕ) → Pairwise (λ i j. i < j) (numbersFrom i n)
-increase i zero = tt
-increase i (suc n) = (λ j d. of-numbersFrom (suc i) n d .0, increase (suc i) n)
 
 module _ (set : RuleSet) where
   -- ── Which indices are marked ───────────────────────────────────────────────────────────────────

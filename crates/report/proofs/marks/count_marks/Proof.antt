@@ -5,7 +5,6 @@ use mathlib.Core.Logic.{⊎-elim}
 use Prim.Native.Nat.{_+_, _-_, _/_, _≤_}
 use native.Mathlib.Omega.{arith}
 use lib.ListN.{length}
-use borrow.Author.Needs.{needs}
 use Rattle.report.specs.Marks.{tableMarks}
 use Rattle.report.proofs.MarkLoopLaws.{marksFrom, marks-all, marks-more, marks-next, marks-end}
 use Rattle.report.proofs.marks.count_marks.Statement.{statement}

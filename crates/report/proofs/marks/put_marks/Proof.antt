@@ -1,10 +1,9 @@
 -- `report::marks::put_marks` meets its contract. The invariant: the lines of the entries from place i on remain.
 -- Assumes nothing.
-use mathlib.Core.Path.{_≡_, sym, ap, _∙_, subst}
+use mathlib.Core.Path.{sym, ap, _∙_, subst}
 use Prim.Native.Nat.{_-_, _/_, _≤_, _<_}
 use native.Mathlib.Omega.{arith}
 use lib.ListN.{length, length-append}
-use borrow.Author.Needs.{needs}
 use Rattle.rules.proofs.OverlayLaws.{Remains, remains-all, remains-length, remains-none, remains-rest}
 use Rattle.report.specs.Marks.{marksText}
 use Rattle.report.proofs.MarkLoopLaws.{linesFrom, lines-all, lines-more, lines-end}
