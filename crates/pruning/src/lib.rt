@@ -1,4 +1,4 @@
-// Pruning tables (document 01: drop tables): the builder and the check (document 01: the judge).
+// Pruning tables (document 01: drop tables): how long one is, the builder and the check (document 01: the judge).
 mod sequences;
 mod witnesses;
 
@@ -9,31 +9,53 @@ use model::is_valid;
 use sequences::profile_at;
 use sequences::sequence_at;
 use sequences::sequence_count;
+use tables::TableSize;
 use witnesses::entry_for;
 ghost use mathlib.Core.Path.{_≡_};
 ghost use Prim.Native.Nat.{_+_, _*_, _≤_, _<_};
 ghost use lib.ListN.{length};
 ghost use Rattle.model.specs.Validity.{Valid};
 ghost use Rattle.tables.specs.Table.{tableEntries, entryAt, builtTable, entryJustified, accepted};
-ghost use Rattle.tables.specs.Answers.{buildOutcome, builtBuffer, BuildMeaning, checkOutcome, CheckMeaning};
+ghost use Rattle.tables.specs.Answers.{tableSize, SizeMeaning, buildOutcome, builtBuffer, BuildMeaning, checkOutcome, CheckMeaning};
 
 // The entry of a sequence that is kept.
 const KEPT: usize = 65535;
+
+// How long the table of a rule set is for a reach, in bytes.
+pub fn table_size(set: RuleSet, reach: usize) -> TableSize
+    ensures { λ r. ⌜ (r ≡ tableSize set reach) × SizeMeaning set reach r ⌝ }
+{
+    if !is_valid(set) {
+        return TableSize {
+            outcome: 7,
+            length: 0,
+        };
+    }
+    if reach < 1 {
+        return TableSize {
+            outcome: 5,
+            length: 0,
+        };
+    }
+    if 3 < reach {
+        return TableSize {
+            outcome: 5,
+            length: 0,
+        };
+    }
+    let length = 2 * sequence_count(set.count, reach);
+    TableSize { outcome: 0, length }
+}
 
 // The first of the causes that all calls on a table share that holds: 7, 5 or 6; 0 if none does.
 fn table_refusal(set: RuleSet, reach: usize, size: usize) -> u8
     ensures { λ r. ⌜ r ≡ buildOutcome set reach size ⌝ }
 {
-    if !is_valid(set) {
-        return 7;
+    let due = table_size(set, reach);
+    if due.outcome != 0 {
+        return due.outcome;
     }
-    if reach < 1 {
-        return 5;
-    }
-    if 3 < reach {
-        return 5;
-    }
-    if size != 2 * sequence_count(set.count, reach) {
+    if size != due.length {
         return 6;
     }
     0

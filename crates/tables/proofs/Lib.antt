@@ -2,3 +2,4 @@ pub mod CountLaws
 pub mod TableLaws
 pub mod ReachLaws
 pub mod AnswerLaws
+pub mod SizeLaws

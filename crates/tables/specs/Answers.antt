@@ -1,4 +1,4 @@
--- What the builder and the check (document 01: the judge) answer, and what the builder leaves in the table.
+-- What the builder and the check (document 01: the judge) answer, what the builder leaves in the table, and how long a table is.
 use mathlib.Core.Path.{_≡_}
 use mathlib.Core.Logic.{_↔_, _≢_}
 use mathlib.Core.Bool.{not, cond}
@@ -11,11 +11,22 @@ use Rattle.theory.specs.Sequences.{Sequence}
 use Rattle.model.specs.Refusals.{Cause, firstRefusal}
 use Rattle.model.specs.Validity.{valid, Valid}
 use Rattle.model.specs.declared.RuleSet.{RuleSet}
+use Rattle.tables.specs.declared.TableSize.{TableSize}
 use Rattle.tables.specs.Table.{tableEntries, kept, entryAt, builtTable, accepted, Marked, Prunable, LeastWitness, Accepted}
 
--- the causes that all calls on a table share, for a table of `size` bytes: the set is not valid; the reach is not 1 to 3; the table's length is not 2 × S
+-- the causes for which a table has no length: the set is not valid; the reach is not 1 to 3
+abbrev pub sizeCauses : RuleSet → ℕ → List Cause
+sizeCauses set reach = (7, not (valid set)) ∷ (5, not (within 1 3 reach)) ∷ []
+
+-- how long a table is: the outcome, and 2 × S bytes, 0 when refused
+unfoldable pub tableSize : RuleSet → ℕ → TableSize
+tableSize set reach =
+    let outcome = firstRefusal (sizeCauses set reach) in
+    record { outcome = outcome; length = cond (eqb outcome 0) (2 * tableEntries set reach) 0 }
+
+-- the causes that all calls on a table share, for a table of `size` bytes: these, and that the table's length is not 2 × S
 unfoldable pub tableCauses : RuleSet → ℕ → ℕ → List Cause
-tableCauses set reach size = (7, not (valid set)) ∷ (5, not (within 1 3 reach)) ∷ (6, not (eqb size (2 * tableEntries set reach))) ∷ []
+tableCauses set reach size = sizeCauses set reach ++ ((6, not (eqb size (2 * tableEntries set reach))) ∷ [])
 
 -- the builder's outcome
 unfoldable pub buildOutcome : RuleSet → ℕ → ℕ → ℕ
@@ -42,6 +53,15 @@ ReachLimits reach = (1 ≤ reach) × (reach ≤ 3)
 -- what is judged before a table's content: the set is valid, the reach is 1 to 3, and the table has 2 × S bytes
 abbrev pub Ready : RuleSet → ℕ → ℕ → Type 0
 Ready set reach size = Valid set × (ReachLimits reach × (size ≡ 2 * tableEntries set reach))
+
+-- what is told of a table's length: each number exactly if its cause holds and none before it does, 0 exactly if none holds; and the length, which a refusal does not show
+pub record SizeMeaning (set : RuleSet) (reach : ℕ) (answer : TableSize) : Type 0 where
+  pub notValid : (answer .outcome ≡ 7) ↔ (Valid set → ⊥)
+  pub badReach : (answer .outcome ≡ 5) ↔ (Valid set × (ReachLimits reach → ⊥))
+  pub sized : (answer .outcome ≡ 0) ↔ (Valid set × ReachLimits reach)
+  pub bytes : answer .outcome ≡ 0 → answer .length ≡ 2 * tableEntries set reach
+  pub bounded : answer .length ≤ 61568
+  pub refused : answer .outcome ≢ 0 → answer .length ≡ 0
 
 -- what a build tells and leaves: each number exactly if its cause holds and none before it does, 0 exactly if none holds; the marks are exactly those of prunable sequences, each names the
 -- smallest index that will do; and a refusal leaves zeros

@@ -1,72 +1,40 @@
 -- `pruning::table_refusal` meets its contract: each way out has the number of its cause, as the outcome's meaning says.
 -- Assumes nothing.
-use mathlib.Core.Path.{sym}
-use native.Mathlib.Omega.{arith}
+use mathlib.Core.Path.{sym, ap, _∙_}
 use borrow.Author.Needs.{needs}
-use Rattle.theory.proofs.ListLaws.{not-both}
-use Rattle.model.proofs.LoopLaws.{failed, passed}
-use Rattle.model.proofs.ValidityLaws.{valid-iff}
-use Rattle.tables.specs.Table.{tableEntries}
+use Rattle.tables.specs.declared.TableSize.{TableSize}
 use Rattle.tables.proofs.AnswerLaws.{build-meaning}
+use Rattle.tables.proofs.SizeLaws.{size-refuses}
 use Rattle.pruning.proofs.table_refusal.Statement.{statement}
 use Rattle.pruning.proofs.table_refusal.Tie as tie
 
-is-valid-requires : tie.Need-is-valid-requires
-is-valid-requires c κs = search needs
+table-size-requires : tie.Need-table-size-requires
+table-size-requires c κs = search needs
 
 returns : tie.Need-returns
 returns c =
-    let s = c .before .before .args in
-    let invalid = failed (c .before .is-valid .ensures) (c .if1 .taken) in
-    sym (build-meaning (s .set) (s .reach) (s .size) .notValid .1 (λ v. not-both (valid-iff (s .set) .1 v) invalid))
+    let told = c .before .before in
+    let s = told .before .args in
+    let e = ap (λ (t : TableSize). t .outcome) (told .table-size .ensures .0) in
+    e ∙ sym (size-refuses (s .set) (s .reach) (s .size) (λ z. c .if1 .taken (e ∙ z)))
 
 returns-2 : tie.Need-returns-2
 returns-2 c =
-    let s = c .before .before .before .args in
-    let v = valid-iff (s .set) .0 (passed (c .before .before .is-valid .ensures) (c .before .if1 .left)) in
-    sym (build-meaning (s .set) (s .reach) (s .size) .badReach .1 (v, λ r. omega arith))
+    let told = c .before .before .before .before in
+    let s = told .before .args in
+    let m = told .table-size .ensures .1 in
+    let z = c .before .before .if1 .left in
+    let w = m .sized .0 z in
+    sym (build-meaning (s .set) (s .reach) (s .size) .badLength .1 (w .0, (w .1, λ e. c .if2 .taken (e ∙ sym (m .bytes z)))))
 
 returns-3 : tie.Need-returns-3
 returns-3 c =
-    let judged = c .before .before in
-    let s = judged .before .before .args in
-    let v = valid-iff (s .set) .0 (passed (judged .before .is-valid .ensures) (judged .if1 .left)) in
-    sym (build-meaning (s .set) (s .reach) (s .size) .badReach .1 (v, λ r. omega arith))
-
-sequence-count-requires : tie.Need-sequence-count-requires
-sequence-count-requires c κs =
-    let judged = c .before .before in
-    let s = judged .before .before .args in
-    (valid-iff (s .set) .0 (passed (judged .before .is-valid .ensures) (judged .if1 .left)) .countLimits .1, c .if3 .left)
-
-mul-if4 : tie.Need-mul-if4
-mul-if4 c = search needs
-
-returns-4 : tie.Need-returns-4
-unfolding tableEntries
-returns-4 c =
-    let judged = c .before .before .before .before in
-    let s = judged .before .before .args in
-    let v = valid-iff (s .set) .0 (passed (judged .before .is-valid .ensures) (judged .if1 .left)) in
-    sym (build-meaning (s .set) (s .reach) (s .size) .badLength .1 (v, ((omega arith, omega arith), λ e. omega (arith, c .if4 .taken))))
-
-returns-5 : tie.Need-returns-5
-unfolding tableEntries
-returns-5 c =
-    let judged = c .before .before .before .before in
-    let s = judged .before .before .args in
-    let v = valid-iff (s .set) .0 (passed (judged .before .is-valid .ensures) (judged .if1 .left)) in
-    sym (build-meaning (s .set) (s .reach) (s .size) .built .1 (v, ((omega arith, omega arith), omega arith)))
+    let told = c .before .before .before .before in
+    let s = told .before .args in
+    let m = told .table-size .ensures .1 in
+    let z = c .before .before .if1 .left in
+    let w = m .sized .0 z in
+    sym (build-meaning (s .set) (s .reach) (s .size) .built .1 (w .0, (w .1, c .if2 .left ∙ m .bytes z)))
 
 pub table-refusal-spec : {M : Type 1} → statement M
-table-refusal-spec =
-    tie.close
-    (tie.spec
-    is-valid-requires
-    returns
-    returns-2
-    returns-3
-    sequence-count-requires
-    mul-if4
-    returns-4
-    returns-5)
+table-refusal-spec = tie.close (tie.spec table-size-requires returns returns-2 returns-3)
