@@ -3,3 +3,8 @@ pub mod ReadTextLaws
 pub mod TextSearchLaws
 pub mod PackedLengthLaws
 pub mod RewritingLaws
+pub mod OfTextLaws
+pub mod TextTableLaws
+pub mod MacroBytesLaws
+pub mod TextMacroLaws
+pub mod MacroShape

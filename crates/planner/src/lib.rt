@@ -1,3 +1,5 @@
 // The entries that C programs call.
 pub mod file_entries;
+pub mod macro_entry;
 pub mod search_entry;
+pub mod table_entries;

@@ -1,0 +1,89 @@
+-- What the entries on tables give of a text that is read and of one that is refused, and what it means.
+-- Assumes nothing.
+use mathlib.Core.Path.{_≡_, sym, ap, subst, _∙_}
+use mathlib.Core.Logic.{_≢_, ⊎-elim}
+use mathlib.Core.List.{List}
+use Prim.Native.Nat.{ℕ, _≤_, _<_}
+use native.Mathlib.Omega.{arith}
+use lib.ListN.{length, replicate}
+use Rattle.theory.proofs.TestLaws.{equal?}
+use Rattle.model.specs.Validity.{Valid}
+use Rattle.model.specs.declared.RuleSet.{RuleSet}
+use Rattle.model.proofs.RefusalLaws.{refusal-at-most}
+use Rattle.rules.specs.Reading.{reading}
+use Rattle.rules.proofs.RefusedLaws.{reading-bound}
+use Rattle.tables.specs.declared.TableSize.{TableSize}
+use Rattle.tables.specs.Answers.{sizeCauses, tableSize, buildOutcome, builtBuffer, checkOutcome}
+use Rattle.tables.proofs.AnswerLaws.{build-meaning, check-meaning}
+use Rattle.tables.proofs.SizeLaws.{size-meaning}
+use Rattle.planner.specs.TextTables.{textTableSize, textBuildOutcome, textBuiltBuffer, textCheckOutcome, TextSizeMeaning, TextBuildMeaning, TextCheckMeaning}
+use Rattle.planner.proofs.OfTextLaws.{of-read, of-refused}
+use Rattle.planner.proofs.ReadTextLaws.{read-valid}
+
+-- an outcome is not 7 where it is the reading's for a refused text, and says that the set is not valid for any other
+pub not-7 : (text : List ℕ) (outcome : ℕ) → (reading text .outcome ≢ 0 → outcome ≡ reading text .outcome)
+    → (reading text .outcome ≡ 0 → outcome ≡ 7 → Valid (reading text .set) → ⊥) → outcome ≢ 7
+not-7 text outcome refused invalid e =
+    ⊎-elim (λ z. invalid z e (read-valid text z)) (λ h. omega (arith, refused h, reading-bound text)) (equal? (reading text .outcome) 0)
+
+size-outcome : (set : RuleSet) (reach : ℕ) → tableSize set reach .outcome ≤ 7
+unfolding tableSize
+size-outcome set reach = refusal-at-most 7 (sizeCauses set reach) (omega arith, (omega arith, tt))
+
+module _ (text : List ℕ) (reach : ℕ) where
+  pub size-read : reading text .outcome ≡ 0 → textTableSize text reach ≡ tableSize (reading text .set) reach
+  unfolding textTableSize
+  size-read = of-read text (λ set. tableSize set reach) (λ n. record { outcome = n; length = 0 })
+
+  pub size-refused : reading text .outcome ≢ 0 → textTableSize text reach ≡ record { outcome = reading text .outcome; length = 0 }
+  unfolding textTableSize
+  size-refused = of-refused text (λ set. tableSize set reach) (λ n. record { outcome = n; length = 0 })
+
+  -- the outcome fits one byte
+  pub size-byte : textTableSize text reach .outcome < 256
+  size-byte =
+      ⊎-elim (λ e. omega (arith, ap (λ (a : TableSize). a .outcome) (size-read e), size-outcome (reading text .set) reach))
+      (λ h. omega (arith, ap (λ (a : TableSize). a .outcome) (size-refused h), reading-bound text)) (equal? (reading text .outcome) 0)
+
+  pub text-size-meaning : TextSizeMeaning text reach (textTableSize text reach)
+  text-size-meaning = record {
+    refusedText = λ h. (ap (λ (a : TableSize). a .outcome) (size-refused h), ap (λ (a : TableSize). a .length) (size-refused h));
+    readText = λ e. rw (size-read e) (size-meaning (reading text .set) reach);
+    never7 = not-7 text (textTableSize text reach .outcome) (λ h. ap (λ (a : TableSize). a .outcome) (size-refused h))
+        (λ e z. size-meaning (reading text .set) reach .notValid .0 (sym (ap (λ (a : TableSize). a .outcome) (size-read e)) ∙ z));
+  }
+
+module _ (text : List ℕ) (reach size : ℕ) where
+  pub build-read : reading text .outcome ≡ 0
+      → (textBuildOutcome text reach size ≡ buildOutcome (reading text .set) reach size) × (textBuiltBuffer text reach size ≡ builtBuffer (reading text .set) reach size)
+  unfolding textBuildOutcome textBuiltBuffer
+  build-read e = (of-read text (λ set. buildOutcome set reach size) (λ n. n) e, of-read text (λ set. builtBuffer set reach size) (λ n. replicate size 0) e)
+
+  pub build-refused : reading text .outcome ≢ 0 → (textBuildOutcome text reach size ≡ reading text .outcome) × (textBuiltBuffer text reach size ≡ replicate size 0)
+  unfolding textBuildOutcome textBuiltBuffer
+  build-refused h = (of-refused text (λ set. buildOutcome set reach size) (λ n. n) h, of-refused text (λ set. builtBuffer set reach size) (λ n. replicate size 0) h)
+
+  pub text-build-meaning : TextBuildMeaning text reach size (textBuildOutcome text reach size) (textBuiltBuffer text reach size)
+  text-build-meaning = record {
+    refusedText = build-refused;
+    readText = λ e. let w = build-read e in rw (w .0, w .1) (build-meaning (reading text .set) reach size);
+    never7 = not-7 text (textBuildOutcome text reach size) (λ h. build-refused h .0)
+        (λ e z. build-meaning (reading text .set) reach size .notValid .0 (sym (build-read e .0) ∙ z));
+  }
+
+module _ (text : List ℕ) (reach : ℕ) (table : List ℕ) where
+  pub check-read : reading text .outcome ≡ 0 → textCheckOutcome text reach table ≡ checkOutcome (reading text .set) reach table
+  unfolding textCheckOutcome
+  check-read = of-read text (λ set. checkOutcome set reach table) (λ n. n)
+
+  pub check-refused : reading text .outcome ≢ 0 → textCheckOutcome text reach table ≡ reading text .outcome
+  unfolding textCheckOutcome
+  check-refused = of-refused text (λ set. checkOutcome set reach table) (λ n. n)
+
+  pub text-check-meaning : TextCheckMeaning text reach table (textCheckOutcome text reach table)
+  text-check-meaning = record {
+    refusedText = check-refused;
+    readText = λ e. rw (check-read e) (check-meaning (reading text .set) reach table);
+    never7 = not-7 text (textCheckOutcome text reach table) check-refused
+        (λ e z. check-meaning (reading text .set) reach table .notValid .0 (sym (check-read e) ∙ z));
+  }

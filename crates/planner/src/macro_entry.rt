@@ -1,0 +1,55 @@
+// The C entry of the macro call. It takes the rule text in place of a set; 1 to 4 of the text come before all else.
+use macros::Macro;
+use macros::macro_of;
+use model::buffers::fill_from;
+use rules::read;
+ghost use mathlib.Core.Path.{_≡_};
+ghost use lib.ListN.{length, getD};
+ghost use Rattle.planner.specs.TextMacro.{macroBytes, macroBuffer, textMacro, TextMacroMeaning};
+
+// Byte i of a macro: condition, effect, and the cost, low byte first; 0 beyond them.
+fn macro_byte(m: Macro, i: usize) -> u8
+    ensures { λ r. ⌜ r ≡ getD (macroBytes m) i 0 ⌝ }
+{
+    let condition = m.condition;
+    let effect = m.effect;
+    if i < 16 {
+        return condition[i];
+    }
+    if i < 32 {
+        return effect[i - 16];
+    }
+    if i == 32 {
+        return (m.cost % 256) as u8;
+    }
+    if i == 33 {
+        return (m.cost / 256) as u8;
+    }
+    0
+}
+
+// Puts the bytes of a macro into the buffer, as many as it has room for, and zeros after them.
+fn put_macro(m: Macro, out: &mut [u8])
+    ensures { λ _. ⌜ now (out .exit) ≡ macroBuffer (length (now (out .entry))) m ⌝ }
+{
+    let mut i: usize = 0;
+    while i < out.len() {
+        out[i] = macro_byte(m, i);
+        i += 1;
+    }
+}
+
+// The macro of a sequence of rule numbers, as bytes; zeros when refused.
+#[no_mangle]
+pub extern "C" fn planner_macro(rules: &[u8], moves: &[u8], out: &mut [u8]) -> u8
+    ensures { λ r. ⌜ (r ≡ textMacro (now (rules .entry)) (now (moves .entry)) .outcome) × (now (out .exit) ≡ macroBuffer (length (now (out .entry))) (textMacro (now (rules .entry)) (now (moves .entry)) .result)) × TextMacroMeaning (now (rules .entry)) (now (moves .entry)) (length (now (out .entry))) r (now (out .exit)) ⌝ }
+{
+    let file = read(rules);
+    if file.outcome != 0 {
+        fill_from(out, 0, 0);
+        return file.outcome;
+    }
+    let answer = macro_of(file.set, moves);
+    put_macro(answer.result, out);
+    answer.outcome
+}
