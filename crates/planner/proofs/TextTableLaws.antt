@@ -1,4 +1,4 @@
--- What the entries on tables give of a text that is read and of one that is refused, and what it means.
+-- What the entries on tables give of a text that is read and of one that is refused, and what it means; and that the length that is told can be built, and what is built passes the check.
 -- Assumes nothing.
 use mathlib.Core.Path.{_≡_, sym, ap, subst, _∙_}
 use mathlib.Core.Logic.{_≢_, ⊎-elim}
@@ -14,8 +14,8 @@ use Rattle.rules.specs.Reading.{reading}
 use Rattle.rules.proofs.RefusedLaws.{reading-bound}
 use Rattle.tables.specs.declared.TableSize.{TableSize}
 use Rattle.tables.specs.Answers.{sizeCauses, tableSize, buildOutcome, builtBuffer, checkOutcome}
-use Rattle.tables.proofs.AnswerLaws.{build-meaning, check-meaning}
-use Rattle.tables.proofs.SizeLaws.{size-meaning}
+use Rattle.tables.proofs.AnswerLaws.{built-whole, built-checks, build-meaning, check-meaning}
+use Rattle.tables.proofs.SizeLaws.{size-meaning, size-builds-iff}
 use Rattle.planner.specs.TextTables.{textTableSize, textBuildOutcome, textBuiltBuffer, textCheckOutcome, TextSizeMeaning, TextBuildMeaning, TextCheckMeaning}
 use Rattle.planner.proofs.OfTextLaws.{of-read, of-refused}
 use Rattle.planner.proofs.ReadTextLaws.{read-valid}
@@ -87,3 +87,31 @@ module _ (text : List ℕ) (reach : ℕ) (table : List ℕ) where
     never7 = not-7 text (textCheckOutcome text reach table) check-refused
         (λ e z. check-meaning (reading text .set) reach table .notValid .0 (sym (check-read e) ∙ z));
   }
+
+-- ── The entries together ─────────────────────────────────────────────────────────────────────────
+
+module _ (text : List ℕ) (reach : ℕ) where
+  -- an outcome 0 comes of a text that is read
+  is-read : (n : ℕ) → (reading text .outcome ≢ 0 → n ≡ reading text .outcome) → n ≡ 0 → reading text .outcome ≡ 0
+  is-read n refused z = ⊎-elim (λ e. e) (λ h. absurd (h (sym (refused h) ∙ z))) (equal? (reading text .outcome) 0)
+
+  -- a table of the length that is told can be built
+  pub told-builds : textTableSize text reach .outcome ≡ 0 → textBuildOutcome text reach (textTableSize text reach .length) ≡ 0
+  told-builds z =
+      let told = textTableSize text reach in
+      let e = is-read (told .outcome) (λ h. text-size-meaning text reach .refusedText h .0) z in
+      build-read text reach (told .length) e .0
+      ∙ size-builds-iff (reading text .set) reach (told .length) .1 (
+        sym (ap (λ (a : TableSize). a .outcome) (size-read text reach e)) ∙ z,
+        ap (λ (a : TableSize). a .length) (size-read text reach e),
+      )
+
+  -- and the check passes what a build leaves
+  pub built-passes : (size : ℕ) → textBuildOutcome text reach size ≡ 0 → textCheckOutcome text reach (textBuiltBuffer text reach size) ≡ 0
+  built-passes size z =
+      let e = is-read (textBuildOutcome text reach size) (λ h. build-refused text reach size h .0) z in
+      let w = build-read text reach size e in
+      let built = sym (w .0) ∙ z in
+      check-read text reach (textBuiltBuffer text reach size) e
+      ∙ ap (checkOutcome (reading text .set) reach) (w .1 ∙ built-whole (reading text .set) reach size built)
+      ∙ built-checks (reading text .set) reach size built

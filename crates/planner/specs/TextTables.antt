@@ -30,7 +30,9 @@ textBuiltBuffer text reach size = ofText text (λ set. builtBuffer set reach siz
 unfoldable pub textCheckOutcome : List ℕ → ℕ → List ℕ → ℕ
 textCheckOutcome text reach table = ofText text (λ set. checkOutcome set reach table) (λ n. n)
 
--- ── What they mean: of a refused text its own refusal, of any other what the call on its set means. 7 does not occur: a set that was read is valid ───────────────────────
+-- ── What they mean ───────────────────────────────────────────────────────────────────────────────
+
+-- Of a refused text its own refusal, and no length or zeros; of any other what the call on its set means. No entry gives 7: a set that was read is valid.
 
 pub record TextSizeMeaning (text : List ℕ) (reach : ℕ) (answer : TableSize) : Type 0 where
   pub refusedText : reading text .outcome ≢ 0 → (answer .outcome ≡ reading text .outcome) × (answer .length ≡ 0)
