@@ -26,11 +26,11 @@ answer-sizes set moves a means =
 module _ (text moves : List ℕ) where
   pub macro-read : reading text .outcome ≡ 0 → textMacro text moves ≡ macroAnswer (reading text .set) moves
   unfolding textMacro
-  macro-read = of-read text (λ set. macroAnswer set moves) (λ n. record { outcome = n; result = blankMacro })
+  macro-read = of-read text _ _
 
   pub macro-refused : reading text .outcome ≢ 0 → textMacro text moves ≡ record { outcome = reading text .outcome; result = blankMacro }
   unfolding textMacro
-  macro-refused = of-refused text (λ set. macroAnswer set moves) (λ n. record { outcome = n; result = blankMacro })
+  macro-refused = of-refused text _ _
 
   -- of a text that is read, the answer has its meaning
   read-meaning : reading text .outcome ≡ 0 → Meaning (reading text .set) moves (textMacro text moves)

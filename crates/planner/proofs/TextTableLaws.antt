@@ -33,11 +33,11 @@ size-outcome set reach = refusal-at-most 7 (sizeCauses set reach) (omega arith, 
 module _ (text : List ℕ) (reach : ℕ) where
   pub size-read : reading text .outcome ≡ 0 → textTableSize text reach ≡ tableSize (reading text .set) reach
   unfolding textTableSize
-  size-read = of-read text (λ set. tableSize set reach) (λ n. record { outcome = n; length = 0 })
+  size-read = of-read text _ _
 
   pub size-refused : reading text .outcome ≢ 0 → textTableSize text reach ≡ record { outcome = reading text .outcome; length = 0 }
   unfolding textTableSize
-  size-refused = of-refused text (λ set. tableSize set reach) (λ n. record { outcome = n; length = 0 })
+  size-refused = of-refused text _ _
 
   -- the outcome fits one byte
   pub size-byte : textTableSize text reach .outcome < 256
@@ -57,11 +57,11 @@ module _ (text : List ℕ) (reach size : ℕ) where
   pub build-read : reading text .outcome ≡ 0
       → (textBuildOutcome text reach size ≡ buildOutcome (reading text .set) reach size) × (textBuiltBuffer text reach size ≡ builtBuffer (reading text .set) reach size)
   unfolding textBuildOutcome textBuiltBuffer
-  build-read e = (of-read text (λ set. buildOutcome set reach size) (λ n. n) e, of-read text (λ set. builtBuffer set reach size) (λ n. replicate size 0) e)
+  build-read e = (of-read text _ _ e, of-read text _ _ e)
 
   pub build-refused : reading text .outcome ≢ 0 → (textBuildOutcome text reach size ≡ reading text .outcome) × (textBuiltBuffer text reach size ≡ replicate size 0)
   unfolding textBuildOutcome textBuiltBuffer
-  build-refused h = (of-refused text (λ set. buildOutcome set reach size) (λ n. n) h, of-refused text (λ set. builtBuffer set reach size) (λ n. replicate size 0) h)
+  build-refused h = (of-refused text _ _ h, of-refused text _ _ h)
 
   pub text-build-meaning : TextBuildMeaning text reach size (textBuildOutcome text reach size) (textBuiltBuffer text reach size)
   text-build-meaning = record {
@@ -74,11 +74,11 @@ module _ (text : List ℕ) (reach size : ℕ) where
 module _ (text : List ℕ) (reach : ℕ) (table : List ℕ) where
   pub check-read : reading text .outcome ≡ 0 → textCheckOutcome text reach table ≡ checkOutcome (reading text .set) reach table
   unfolding textCheckOutcome
-  check-read = of-read text (λ set. checkOutcome set reach table) (λ n. n)
+  check-read = of-read text _ _
 
   pub check-refused : reading text .outcome ≢ 0 → textCheckOutcome text reach table ≡ reading text .outcome
   unfolding textCheckOutcome
-  check-refused = of-refused text (λ set. checkOutcome set reach table) (λ n. n)
+  check-refused = of-refused text _ _
 
   pub text-check-meaning : TextCheckMeaning text reach table (textCheckOutcome text reach table)
   text-check-meaning = record {
