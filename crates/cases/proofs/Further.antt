@@ -20,6 +20,7 @@ use Rattle.queries.specs.Searched.{queryCauses, cheapestPlan, searchCauses, sho
 use Rattle.queries.specs.PlanPart.{planPart}
 use Rattle.queries.specs.Tallies.{talliedOf}
 use Rattle.queries.specs.declared.Tally.{Tally}
+use Rattle.planner.specs.OfText.{ofText}
 use Rattle.planner.specs.Packed.{packed, textRefused, searchedText, packedSearch}
 use Rattle.report.specs.Listing.{markedIndices, markLines, listingOf, listing}
 use Rattle.cases.proofs.Worked.{setOf, fileE, E, Question, search, macroOf, compose, build, check, list, enter, Reply, composes, vectors, builds, checks, lists, packs, reply, Row, told, keptBytes, markBytes}
@@ -159,7 +160,7 @@ abbrev pub rows : List Row
 rows = macros ++ tables ++ searches ++ texts
 
 pub further-cases : map (λ (row : Row). reply (row .asked)) rows ≡ map (λ (row : Row). row .expected) rows
-unfolding valueOf valuesOf applicable successor width states ruleAt stepOf ruleCost statesOf runIn sequenceCost admitted redundant entryLimited conditionPlaced effectPlaced conditionValid effectValid sizeValid sizesValid ruleValid ruleBlank ruleValidAt rulesValid duplicate repeated hasDuplicates wellFormed valid literal digits isNumber decimal number numberWithin variable constant entry sizeItem conditionItem effectItem itemsAfter numberLine listLine ruleLines rulesAfter ruleList fileLines finished reading ownVariables emptyLines replaced clash equated unified followed extended composedFrom composed macroCauses macroAnswer tableEntries sequenceAt entryAt marked builtEntry builtTable entryJustified accepted tableCauses buildOutcome builtBuffer checkCauses checkOutcome startFits goalFits meetsGoal visitedBy plansFor queryCauses cheapestPlan searchCauses shownPlan searchedWith searched numeral line markedIndices markLines listingOf listing packed textRefused searchedText packedSearch
+unfolding valueOf valuesOf applicable successor width states ruleAt stepOf ruleCost statesOf runIn sequenceCost admitted redundant entryLimited conditionPlaced effectPlaced conditionValid effectValid sizeValid sizesValid ruleValid ruleBlank ruleValidAt rulesValid duplicate repeated hasDuplicates wellFormed valid literal digits isNumber decimal number numberWithin variable constant entry sizeItem conditionItem effectItem itemsAfter numberLine listLine ruleLines rulesAfter ruleList fileLines finished reading ownVariables emptyLines replaced clash equated unified followed extended composedFrom composed macroCauses macroAnswer tableEntries sequenceAt entryAt marked builtEntry builtTable entryJustified accepted tableCauses buildOutcome builtBuffer checkCauses checkOutcome startFits goalFits meetsGoal visitedBy plansFor queryCauses cheapestPlan searchCauses shownPlan searchedWith searched numeral line markedIndices markLines listingOf listing packed textRefused ofText searchedText packedSearch
 further-cases = refl
 
 -- ── Plan part and tally ──────────────────────────────────────────────────────────────────────────

@@ -19,6 +19,7 @@ use Rattle.tables.specs.Table.{tableEntries, sequenceAt, entryAt, marked, built
 use Rattle.tables.specs.Answers.{tableCauses, buildOutcome, builtBuffer, checkCauses, checkOutcome}
 use Rattle.queries.specs.Query.{Query, startFits, goalFits, meetsGoal, visitedBy, plansFor}
 use Rattle.queries.specs.Searched.{Searched, queryCauses, cheapestPlan, searchCauses, shownPlan, searchedWith, searched}
+use Rattle.planner.specs.OfText.{ofText}
 use Rattle.planner.specs.Packed.{searchedText, packedSearch}
 use Rattle.report.specs.Listing.{listing}
 

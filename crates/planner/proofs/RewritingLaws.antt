@@ -6,7 +6,6 @@ use mathlib.Core.List.{List}
 use Prim.Native.Nat.{ℕ, _≤_, _<_}
 use native.Mathlib.Omega.{arith}
 use lib.ListN.{length, replicate}
-use borrow.Author.Tests.{eq-eqb, ne-eqb}
 use Rattle.theory.proofs.TestLaws.{below?, equal?}
 use Rattle.model.specs.declared.RuleSet.{RuleSet}
 use Rattle.model.proofs.ValidityLaws.{valid-iff}
@@ -20,6 +19,7 @@ use Rattle.rules.proofs.AgainLaws.{file-again}
 use Rattle.rules.proofs.RefusedLaws.{reading-bound, written-refused}
 use Rattle.rules.proofs.LengthLaws.{render-bound}
 use Rattle.planner.specs.Rewriting.{rewritten, rewrittenBuffer, RewriteMeaning}
+use Rattle.planner.proofs.OfTextLaws.{of-read, of-refused}
 use Rattle.planner.proofs.ReadTextLaws.{read-as}
 
 module _ (text : List ℕ) (room : ℕ) where
@@ -31,11 +31,11 @@ module _ (text : List ℕ) (room : ℕ) where
 
   pub not-read : reading text .outcome ≢ 0 → Rewrites (record { outcome = reading text .outcome; length = 0 }) (replicate room 0)
   unfolding rewritten rewrittenBuffer
-  not-read n = rw (ne-eqb (reading text .outcome) 0 n) (refl, refl)
+  not-read n = (sym (of-refused text (λ set. written set room) (λ k. record { outcome = k; length = 0 }) n), sym (of-refused text (λ set. writtenBuffer set room) (λ k. replicate room 0) n))
 
   pub was-read : reading text .outcome ≡ 0 → Rewrites (written (reading text .set) room) (writtenBuffer (reading text .set) room)
   unfolding rewritten rewrittenBuffer
-  was-read h = rw (eq-eqb (reading text .outcome) 0 h) (refl, refl)
+  was-read h = (sym (of-read text (λ set. written set room) (λ k. record { outcome = k; length = 0 }) h), sym (of-read text (λ set. writtenBuffer set room) (λ k. replicate room 0) h))
 
   -- ── What they mean ─────────────────────────────────────────────────────────────────────────────
 

@@ -6,7 +6,6 @@ use mathlib.Core.List.{List}
 use Prim.Native.Nat.{ℕ, _<_}
 use native.Mathlib.Omega.{arith}
 use lib.ListN.{replicate}
-use borrow.Author.Tests.{eq-eqb, ne-eqb}
 use Rattle.theory.proofs.TestLaws.{equal?}
 use Rattle.rules.specs.Reading.{reading}
 use Rattle.rules.proofs.RefusedLaws.{reading-bound}
@@ -16,17 +15,18 @@ use Rattle.queries.proofs.AnswerLaws.{outcome-bound, cost-bound, length-bound, 
 use Rattle.queries.proofs.MeaningLaws.{search-meaning}
 use Rattle.planner.specs.Packed.{textRefused, searchedText}
 use Rattle.planner.specs.TextSearch.{TextSearchMeaning}
+use Rattle.planner.proofs.OfTextLaws.{of-read, of-refused}
 use Rattle.planner.proofs.PackedLaws.{Fits}
 use Rattle.planner.proofs.ReadTextLaws.{read-valid}
 
 module _ (text : List ℕ) (query : Query) where
   pub refused-text : reading text .outcome ≢ 0 → searchedText text query ≡ textRefused (reading text .outcome) (query .planSize)
   unfolding searchedText
-  refused-text n = rw (ne-eqb (reading text .outcome) 0 n)
+  refused-text n = of-refused text (λ set. searched set query) (λ k. textRefused k (query .planSize)) n
 
   pub read-text : reading text .outcome ≡ 0 → searchedText text query ≡ searched (reading text .set) query
   unfolding searchedText
-  read-text h = rw (eq-eqb (reading text .outcome) 0 h)
+  read-text h = of-read text (λ set. searched set query) (λ k. textRefused k (query .planSize)) h
 
   -- what holds of both holds of the search
   by-text : (P : Searched → Type 0) → P (searched (reading text .set) query) → P (textRefused (reading text .outcome) (query .planSize)) → P (searchedText text query)

@@ -1,13 +1,11 @@
 -- The C entry of the search: it takes the rule text in place of a set, gives the answer as one 64-bit number, and has no tally.
-use mathlib.Core.Bool.{cond}
 use mathlib.Core.List.{List}
 use Prim.Native.Nat.{ℕ, _+_, _*_, _/_, _%_}
-use lib.Dec.{eqb}
 use lib.ListN.{replicate}
-use Rattle.rules.specs.Reading.{reading}
 use Rattle.queries.specs.Query.{Query}
 use Rattle.queries.specs.Searched.{Searched, searched, noMove}
 use Rattle.queries.specs.declared.Answer.{Answer}
+use Rattle.planner.specs.OfText.{ofText}
 
 -- the outcome in the low byte, the length in the next, the cost in the next 16 bits, the steps in the top 32
 unfoldable pub packed : Answer → ℕ
@@ -23,9 +21,7 @@ textRefused outcome room = record { answer = record { outcome = outcome; cost = 
 
 -- the search of a rule text: 1 to 4 of the text come before all else
 unfoldable pub searchedText : List ℕ → Query → Searched
-searchedText text query =
-    let read = reading text in
-    cond (eqb (read .outcome) 0) (searched (read .set) query) (textRefused (read .outcome) (query .planSize))
+searchedText text query = ofText text (λ set. searched set query) (λ n. textRefused n (query .planSize))
 
 -- the number that the entry gives
 unfoldable pub packedSearch : List ℕ → Query → ℕ

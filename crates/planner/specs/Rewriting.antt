@@ -1,28 +1,23 @@
 -- A rule file read and written again.
 use mathlib.Core.Path.{_≡_}
 use mathlib.Core.Logic.{_↔_, _≢_}
-use mathlib.Core.Bool.{cond}
 use mathlib.Core.List.{List}
 use Prim.Native.Nat.{ℕ, _≤_, _<_}
-use lib.Dec.{eqb}
 use lib.ListN.{length, replicate}
 use Rattle.theory.specs.Lists.{padded}
 use Rattle.rules.specs.Reading.{reading, Faultless}
 use Rattle.rules.specs.Writing.{written, writtenBuffer}
 use Rattle.rules.specs.declared.Written.{Written}
 use Rattle.planner.specs.PackedLength.{packedLength}
+use Rattle.planner.specs.OfText.{ofText}
 
 -- the answer for a buffer of `room` bytes: the reader's refusal, 1 to 4, with length 0; else the writer's answer
 unfoldable pub rewritten : List ℕ → ℕ → Written
-rewritten text room =
-    let read = reading text in
-    cond (eqb (read .outcome) 0) (written (read .set) room) (record { outcome = read .outcome; length = 0 })
+rewritten text room = ofText text (λ set. written set room) (λ n. record { outcome = n; length = 0 })
 
 -- the buffer after the call: zeros for a text that is not read; else what the writer leaves
 unfoldable pub rewrittenBuffer : List ℕ → ℕ → List ℕ
-rewrittenBuffer text room =
-    let read = reading text in
-    cond (eqb (read .outcome) 0) (writtenBuffer (read .set) room) (replicate room 0)
+rewrittenBuffer text room = ofText text (λ set. writtenBuffer set room) (λ n. replicate room 0)
 
 -- the number that the entry gives
 unfoldable pub packedRewritten : List ℕ → ℕ → ℕ
