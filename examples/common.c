@@ -6,6 +6,7 @@
 #include <stdio.h>
 #include <stdlib.h>
 #include <string.h>
+#include <sys/stat.h>
 
 void complain(const char *subject, const char *reason)
 {
@@ -69,6 +70,13 @@ struct bytes read_file(const char *path)
     }
     fclose(file);
     return bytes;
+}
+
+void keep_apart(const char *written, const char *read)
+{
+    struct stat one, other;
+    if (stat(written, &one) == 0 && stat(read, &other) == 0 && one.st_dev == other.st_dev && one.st_ino == other.st_ino)
+        fail(written, "would be written over a file that is read");
 }
 
 uint8_t build_table(struct bytes rules, size_t reach, struct bytes *table)

@@ -38,6 +38,9 @@ uint64_t number(const char *subject, const char *text, uint64_t most);
 /* The whole file, or the end of the program. */
 struct bytes read_file(const char *path);
 
+/* Ends the program if a file that is to be written is one that is read. */
+void keep_apart(const char *written, const char *read);
+
 /* The table of a rule file, and outcome 0; or the outcome for which there is none. */
 uint8_t build_table(struct bytes rules, size_t reach, struct bytes *table);
 

@@ -107,6 +107,12 @@ static void take_option(struct query *query, const char *option, const char *val
         fail_with_usage(option, "no such option");
 }
 
+/* Whether the table is to be built, and not read from a file. */
+static bool builds_table(const struct query *query)
+{
+    return strcmp(query->table, "build") == 0;
+}
+
 /* The query of the command line, with every number as it was typed. */
 static struct query query_of(int count, char **arguments)
 {
@@ -119,6 +125,10 @@ static struct query query_of(int count, char **arguments)
     query.table = arguments[2];
     query.start = values_of("START", arguments[3], false);
     query.goal = values_of("GOAL", arguments[4], true);
+    if (query.log != NULL)
+        keep_apart(query.log, query.rules);
+    if (query.log != NULL && !builds_table(&query))
+        keep_apart(query.log, query.table);
     return query;
 }
 
@@ -127,7 +137,7 @@ static uint64_t answer_to(const struct query *query, struct bytes rules, uint8_t
 {
     struct bytes table;
     uint8_t built = PLANNER_OK;
-    if (strcmp(query->table, "build") == 0)
+    if (builds_table(query))
         built = build_table(rules, query->reach, &table);
     else
         table = read_file(query->table);

@@ -105,6 +105,8 @@ int main(int count, char **arguments)
         return STATUS_FAILED;
     }
     size_t reach = (size_t)number("REACH", arguments[3], SIZE_MAX);
+    if (builds)
+        keep_apart(arguments[4], arguments[2]);
     struct bytes rules = read_file(arguments[2]);
     int status = builds ? build(rules, reach, arguments[4]) : check(rules, reach, arguments[4]);
     free(rules.at);
