@@ -1,0 +1,111 @@
+//! One call of a C entry, with all that it is given, and its answer. A call prints as Rust that can be pasted into a test.
+
+use std::fmt;
+
+/// A search's query but for rules and table. Document 01's ceiling is the step limit.
+#[derive(Clone, Debug, PartialEq)]
+pub struct Query {
+    pub start: Vec<u8>,
+    pub goal: Vec<u8>,
+    pub max_moves: usize,
+    pub max_cost: u16,
+    pub step_limit: u32,
+}
+
+/// A buffer that is written is given by its length.
+#[derive(Clone, Debug, PartialEq)]
+pub enum Call {
+    Search { rules: Vec<u8>, table: Vec<u8>, reach: usize, query: Query, plan_length: usize },
+    Read { text: Vec<u8> },
+    Rewrite { text: Vec<u8>, out_length: usize },
+    TableSize { rules: Vec<u8>, reach: usize },
+    BuildTable { rules: Vec<u8>, table_length: usize, reach: usize },
+    CheckTable { rules: Vec<u8>, table: Vec<u8>, reach: usize },
+    Macro { rules: Vec<u8>, moves: Vec<u8>, out_length: usize },
+}
+
+/// The number that an entry gives, and the whole buffer that it was lent for writing.
+#[derive(Clone, Debug, PartialEq)]
+pub struct Answer {
+    pub number: u64,
+    pub buffer: Vec<u8>,
+}
+
+impl Answer {
+    pub fn outcome(&self) -> usize {
+        (self.number & 0xff) as usize
+    }
+
+    pub fn length(&self) -> usize {
+        (self.number >> 8 & 0xff) as usize
+    }
+
+    pub fn cost(&self) -> u64 {
+        self.number >> 16 & 0xffff
+    }
+
+    pub fn steps(&self) -> u64 {
+        self.number >> 32
+    }
+
+    /// The size of a rewritten file or of a table.
+    pub fn size(&self) -> usize {
+        (self.number >> 8) as usize
+    }
+}
+
+/// The names of the C entries, in the order of `Call::entry`.
+pub const ENTRIES: [&str; 7] = ["search", "read", "rewrite", "table_size", "build_table", "check_table", "macro"];
+
+impl Call {
+    pub fn entry(&self) -> usize {
+        match self {
+            Call::Search { .. } => 0,
+            Call::Read { .. } => 1,
+            Call::Rewrite { .. } => 2,
+            Call::TableSize { .. } => 3,
+            Call::BuildTable { .. } => 4,
+            Call::CheckTable { .. } => 5,
+            Call::Macro { .. } => 6,
+        }
+    }
+
+    /// The rule file that it is given.
+    pub fn text(&self) -> &[u8] {
+        match self {
+            Call::Read { text } | Call::Rewrite { text, .. } => text,
+            Call::Search { rules, .. }
+            | Call::TableSize { rules, .. }
+            | Call::BuildTable { rules, .. }
+            | Call::CheckTable { rules, .. }
+            | Call::Macro { rules, .. } => rules,
+        }
+    }
+}
+
+impl fmt::Display for Call {
+    fn fmt(&self, f: &mut fmt::Formatter) -> fmt::Result {
+        let text = format!("b\"{}\".to_vec()", self.text().escape_ascii());
+        match self {
+            Call::Search { table, reach, query, plan_length, .. } => write!(
+                f,
+                "Call::Search {{ rules: {text}, table: vec!{table:?}, reach: {reach}, query: Query {{ start: vec!{:?}, goal: vec!{:?}, max_moves: {}, max_cost: {}, step_limit: {} }}, plan_length: {plan_length} }}",
+                query.start, query.goal, query.max_moves, query.max_cost, query.step_limit
+            ),
+            Call::Read { .. } => write!(f, "Call::Read {{ text: {text} }}"),
+            Call::Rewrite { out_length, .. } => write!(f, "Call::Rewrite {{ text: {text}, out_length: {out_length} }}"),
+            Call::TableSize { reach, .. } => write!(f, "Call::TableSize {{ rules: {text}, reach: {reach} }}"),
+            Call::BuildTable { table_length, reach, .. } => {
+                write!(f, "Call::BuildTable {{ rules: {text}, table_length: {table_length}, reach: {reach} }}")
+            }
+            Call::CheckTable { table, reach, .. } => write!(f, "Call::CheckTable {{ rules: {text}, table: vec!{table:?}, reach: {reach} }}"),
+            Call::Macro { moves, out_length, .. } => write!(f, "Call::Macro {{ rules: {text}, moves: vec!{moves:?}, out_length: {out_length} }}"),
+        }
+    }
+}
+
+impl fmt::Display for Answer {
+    fn fmt(&self, f: &mut fmt::Formatter) -> fmt::Result {
+        write!(f, "Answer {{ number: 0x{:016x}, buffer: vec!{:?} }}", self.number, self.buffer)
+    }
+}

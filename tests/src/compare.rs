@@ -1,0 +1,80 @@
+//! The library's answer beside the oracle's, and the count of what was compared.
+
+use crate::calls::{Answer, Call, ENTRIES};
+use crate::library;
+use crate::oracle::{self, Judged};
+use std::thread;
+
+/// The outcomes that each entry can give, in the order of `ENTRIES`. No entry gives 7.
+const OUTCOMES: [&[usize]; 7] = [
+    &[0, 1, 2, 3, 4, 5, 6, 9, 10, 11, 12, 14, 15, 16],
+    &[0, 1, 2, 3, 4],
+    &[0, 1, 2, 3, 4, 8],
+    &[0, 1, 2, 3, 4, 5],
+    &[0, 1, 2, 3, 4, 5, 6],
+    &[0, 1, 2, 3, 4, 5, 6, 14],
+    &[0, 1, 2, 3, 4, 11, 13, 17],
+];
+
+/// How often each entry gave each outcome.
+#[derive(Default)]
+pub struct Tally([[u64; 18]; 7]);
+
+/// Prints the call whole if what follows panics.
+struct Shown<'a>(&'a Call);
+
+impl Drop for Shown<'_> {
+    fn drop(&mut self) {
+        if thread::panicking() {
+            eprintln!("in the call\n{}", self.0);
+        }
+    }
+}
+
+/// Makes the call and panics unless the answer is this one.
+pub fn check(call: &Call, expected: &Answer) {
+    let _shown = Shown(call);
+    let got = library::answer(call);
+    assert!(got == *expected, "\nexpected {expected}\n     got {got}");
+}
+
+/// Makes the call and panics unless the answer is the oracle's.
+pub fn compare(call: &Call, tally: &mut Tally) -> Answer {
+    let set = oracle::file::read(call.text());
+    compare_in(call, &mut Judged::new(&set), tally)
+}
+
+/// The same, where the file has been judged before.
+pub fn compare_in(call: &Call, judged: &mut Judged, tally: &mut Tally) -> Answer {
+    let expected = judged.expected(call);
+    check(call, &expected);
+    tally.0[call.entry()][expected.outcome()] += 1;
+    expected
+}
+
+impl Tally {
+    pub fn cases(&self) -> u64 {
+        self.0.iter().flatten().sum()
+    }
+
+    /// How often there was this outcome, by any entry.
+    fn outcome(&self, outcome: usize) -> u64 {
+        self.0.iter().map(|counts| counts[outcome]).sum()
+    }
+
+    /// Outcome and number of each that occurred.
+    pub fn outcomes(&self) -> String {
+        let shown = (0..18).filter(|&outcome| self.outcome(outcome) > 0).map(|outcome| format!("{outcome}:{}", self.outcome(outcome)));
+        shown.collect::<Vec<_>>().join(",")
+    }
+
+    /// Panics unless each entry gave each of its outcomes, each so often at least.
+    pub fn require_all(&self, least: u64) {
+        for (entry, outcomes) in OUTCOMES.iter().enumerate() {
+            for &outcome in *outcomes {
+                let count = self.0[entry][outcome];
+                assert!(count >= least, "planner_{} gave outcome {outcome} {count} times, fewer than {least}", ENTRIES[entry]);
+            }
+        }
+    }
+}

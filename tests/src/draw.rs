@@ -1,0 +1,231 @@
+//! Rule sets, tables and queries drawn at random. Rules are drawn so that sequences overlap, commute, undo each other and cost differently: much is prunable, and plans tie.
+
+use crate::calls::Query;
+use crate::oracle::file::read;
+use crate::oracle::model::{Entry, Rule, Set, State};
+use crate::oracle::redundancy::Redundancy;
+use crate::oracle::symbolic::Run;
+use crate::oracle::table::KEPT;
+use crate::oracle::writer::write;
+use crate::random::Random;
+
+/// Sizes with at most so many states; often some are equal.
+pub fn sizes(random: &mut Random, states: usize) -> Vec<u8> {
+    let pool = [random.pick(&[2, 2, 2, 3, 3, 4, 5, 16]), random.pick(&[2, 2, 3, 4, 7, 11])];
+    let positions = random.from_to(1, 16);
+    let mut sizes = vec![];
+    let mut product = 1usize;
+    for _ in 0..positions {
+        let size = random.pick(&pool);
+        product = product.saturating_mul(size as usize);
+        if product > states && !sizes.is_empty() {
+            break;
+        }
+        sizes.push(size);
+    }
+    sizes
+}
+
+/// The entries that leave all as it is.
+fn idle(sizes: &[u8]) -> Vec<Entry> {
+    (0..sizes.len()).map(Entry::Place).collect()
+}
+
+/// A value of a position.
+fn value(random: &mut Random, size: u8) -> Entry {
+    Entry::Value(random.below(size as usize) as u8)
+}
+
+/// Condition and effect entry by entry.
+fn loose(random: &mut Random, sizes: &[u8]) -> (Vec<Entry>, Vec<Entry>) {
+    let (constants, links) = (random.pick(&[5, 20, 40]), random.pick(&[0, 15, 40]));
+    let mut condition = idle(sizes);
+    for i in 0..sizes.len() {
+        let same: Vec<usize> = (0..i).filter(|&j| sizes[j] == sizes[i] && condition[j] == Entry::Place(j)).collect();
+        if random.chance(constants) {
+            condition[i] = value(random, sizes[i]);
+        } else if !same.is_empty() && random.chance(links) {
+            condition[i] = Entry::Place(random.pick(&same));
+        }
+    }
+    let changes = random.pick(&[15, 30, 60]);
+    let mut effect = condition.clone();
+    for i in 0..sizes.len() {
+        let same: Vec<usize> = (0..sizes.len()).filter(|&j| sizes[j] == sizes[i] && condition[j] == Entry::Place(j)).collect();
+        if random.chance(changes) {
+            effect[i] = if same.is_empty() || random.chance(50) { value(random, sizes[i]) } else { Entry::Place(random.pick(&same)) };
+        }
+    }
+    (condition, effect)
+}
+
+/// Two positions, the same size for both if there are such.
+fn two_alike(random: &mut Random, sizes: &[u8]) -> (usize, usize) {
+    let one = random.below(sizes.len());
+    let alike: Vec<usize> = (0..sizes.len()).filter(|&other| other != one && sizes[other] == sizes[one]).collect();
+    (one, if alike.is_empty() { one } else { random.pick(&alike) })
+}
+
+/// The lines of one more rule, some of them made from earlier rules.
+fn lines(random: &mut Random, sizes: &[u8], earlier: &[Rule]) -> (Vec<Entry>, Vec<Entry>) {
+    let (mut condition, mut effect) = (idle(sizes), idle(sizes));
+    let (one, other) = two_alike(random, sizes);
+    match random.below(if earlier.is_empty() { 5 } else { 9 }) {
+        // sets a position
+        0 => effect[one] = value(random, sizes[one]),
+        // turns one value into another
+        1 => (condition[one], effect[one]) = (value(random, sizes[one]), value(random, sizes[one])),
+        // exchanges two positions
+        2 => effect.swap(one, other),
+        // copies one position to another
+        3 => effect[one] = Entry::Place(other),
+        4 => return loose(random, sizes),
+        // an earlier rule the other way round
+        5 => {
+            let rule = random.pick(earlier);
+            return (rule.effect, rule.condition);
+        }
+        // an earlier rule with another effect at one place, or none there
+        6 => {
+            let rule = random.pick(earlier);
+            (condition, effect) = (rule.condition, rule.effect);
+            effect[one] = if random.chance(50) { condition[one] } else { value(random, sizes[one]) };
+        }
+        // an earlier rule where a position has a certain value
+        7 => {
+            let rule = random.pick(earlier);
+            let known = value(random, sizes[one]);
+            let narrowed = |entry: &Entry| if *entry == Entry::Place(one) { known } else { *entry };
+            return (rule.condition.iter().map(narrowed).collect(), rule.effect.iter().map(narrowed).collect());
+        }
+        // two or three earlier rules in one
+        _ => {
+            let set = Set { sizes: sizes.to_vec(), rules: earlier.to_vec() };
+            let sequence: Vec<u8> = (0..random.from_to(2, 3)).map(|_| random.from_to(1, earlier.len()) as u8).collect();
+            if let Some(run) = Run::of(&set, &sequence) {
+                let rule = run.as_rule(0);
+                return (rule.condition, rule.effect);
+            }
+        }
+    }
+    (condition, effect)
+}
+
+/// A cost, by the set's way with costs.
+fn cost(random: &mut Random, way: usize, place: usize) -> u32 {
+    (match way {
+        0 => 1,
+        1 => random.below(2),
+        2 => random.below(4),
+        // cheaper later, dearer later
+        3 => 9usize.saturating_sub(place),
+        4 => place + 1,
+        5 => random.pick(&[0, 0, 0, 0, 1, 255]),
+        _ => random.below(256),
+    }) as u32
+}
+
+/// A rule set that a file gives, with at most so many states and rules.
+pub fn rule_set(random: &mut Random, states: usize, most_rules: usize) -> Set {
+    let sizes = sizes(random, states);
+    let number = random.from_to(1, most_rules);
+    let way = random.below(7);
+    let mut set = Set { sizes, rules: vec![] };
+    for _ in 0..4 * number {
+        let (condition, effect) = lines(random, &set.sizes, &set.rules);
+        let cost = cost(random, way, set.rules.len());
+        set.rules.push(Rule { cost, condition, effect });
+        if read(&write(&set)).is_err() {
+            set.rules.pop();
+        }
+        if set.rules.len() == number {
+            break;
+        }
+    }
+    if set.rules.is_empty() {
+        set.rules.push(Rule { cost: 1, condition: idle(&set.sizes), effect: idle(&set.sizes) });
+    }
+    set
+}
+
+pub fn state(random: &mut Random, sizes: &[u8]) -> State {
+    sizes.iter().map(|&size| random.below(size as usize) as u8).collect()
+}
+
+/// A state that a random sequence leads to.
+fn reached(random: &mut Random, set: &Set, start: &[u8]) -> State {
+    let mut now = start.to_vec();
+    for _ in 0..random.below(8) {
+        let running: Vec<&Rule> = set.rules.iter().filter(|rule| rule.runs(&now)).collect();
+        if !running.is_empty() {
+            now = random.pick(&running).after(&now);
+        }
+    }
+    now
+}
+
+/// A start in which some rule runs, most often; a goal that can be reached, most often, with some values left open. No bounds yet.
+pub fn query(random: &mut Random, set: &Set) -> Query {
+    let mut start = state(random, &set.sizes);
+    for _ in 0..8 {
+        if set.rules.iter().any(|rule| rule.runs(&start)) || random.chance(10) {
+            break;
+        }
+        start = state(random, &set.sizes);
+    }
+    let mut goal = if random.chance(80) { reached(random, set, &start) } else { state(random, &set.sizes) };
+    let open = random.pick(&[0, 20, 60]);
+    for byte in &mut goal {
+        if random.chance(open) {
+            *byte = 255;
+        }
+    }
+    Query { start, goal, max_moves: 0, max_cost: 65535, step_limit: u32::MAX }
+}
+
+/// Some of a table's marks.
+pub fn some_marks(random: &mut Random, entries: &[u16]) -> Vec<u16> {
+    let share = random.pick(&[10, 50, 90]);
+    entries.iter().map(|&entry| if random.chance(share) { entry } else { KEPT }).collect()
+}
+
+/// The same marks with any witnesses that justify them.
+pub fn other_witnesses(random: &mut Random, redundancy: &Redundancy, entries: &[u16]) -> Vec<u16> {
+    let mut entries = entries.to_vec();
+    for b in (0..entries.len()).filter(|&b| entries[b] != KEPT).collect::<Vec<_>>() {
+        let serving: Vec<usize> = (0..b).filter(|&a| redundancy.redundant(b, a)).collect();
+        entries[b] = random.pick(&serving) as u16;
+    }
+    entries
+}
+
+/// A table with some entry changed, most often to one that is not justified.
+pub fn spoilt(random: &mut Random, entries: &[u16]) -> Vec<u16> {
+    let mut entries = entries.to_vec();
+    let count = entries.len();
+    for _ in 0..random.pick(&[1, 1, 1, 2, 5]) {
+        let b = random.below(count);
+        let marks: Vec<usize> = (0..count).filter(|&b| entries[b] != KEPT).collect();
+        match random.below(9) {
+            // any earlier one, itself, any later one
+            0 => entries[b] = random.below(b + 1) as u16,
+            1 => entries[b] = b as u16,
+            2 => entries[b] = random.from_to(b, count - 1) as u16,
+            // an index that is none
+            3 => entries[b] = random.from_to(count, 65534) as u16,
+            4 => entries[b] = random.pick(&[count, 255, 256, 32767, 32768, 65280, 65534]) as u16,
+            // entry 0
+            5 => entries[0] = random.pick(&[0, 1, 65534, 65280, 255]),
+            // a bit of an entry
+            6 => entries[b] ^= 1 << random.below(16),
+            // another witness, or one mark more with the witness of another
+            7 if !marks.is_empty() => {
+                let b = random.pick(&marks);
+                entries[b] = random.below(b) as u16;
+            }
+            8 if !marks.is_empty() => entries[b] = entries[random.pick(&marks)],
+            _ => entries[b] = 0,
+        }
+    }
+    entries
+}

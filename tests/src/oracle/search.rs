@@ -1,0 +1,111 @@
+//! Document 01, "The walk": the steps by count, and the cheapest plan by a search that drops nothing.
+
+use super::model::{Set, State};
+use super::sequences::index;
+use super::table::KEPT;
+use crate::calls::Query;
+use std::collections::BTreeMap;
+
+/// A sequence that can be run from the start, with the state that it leads to and its cost.
+#[derive(Clone)]
+pub struct Ran {
+    pub sequence: Vec<u8>,
+    pub state: State,
+    pub cost: u32,
+}
+
+/// "holds the goal's byte at every position where that byte is not 255"
+pub fn meets(goal: &[u8], state: &[u8]) -> bool {
+    goal.iter().zip(state).all(|(&asked, &held)| asked == 255 || asked == held)
+}
+
+/// "It is undropped if no stretch of neighbouring rules in it, from one rule to the whole, is marked"; the table has the stretches of at most `reach` rules.
+pub fn undropped(rules: usize, reach: usize, entries: &[u16], sequence: &[u8]) -> bool {
+    let marked = |stretch: &[u8]| entries[index(rules, stretch)] != KEPT;
+    (1..=reach).all(|length| !sequence.windows(length).any(marked))
+}
+
+fn begin(query: &Query) -> Ran {
+    Ran { sequence: vec![], state: query.start.clone(), cost: 0 }
+}
+
+/// The sequence with one rule more, by rule number, where that can be run and stays within the cost bound.
+fn extensions<'a>(set: &'a Set, query: &'a Query, ran: &'a Ran) -> impl Iterator<Item = Ran> + 'a {
+    (1..=set.rules.len() as u8).filter_map(move |number| {
+        let rule = set.rule(number);
+        let cost = ran.cost + rule.cost;
+        let runs = rule.runs(&ran.state) && cost <= u32::from(query.max_cost);
+        runs.then(|| Ran { sequence: [&ran.sequence[..], &[number]].concat(), state: rule.after(&ran.state), cost })
+    })
+}
+
+/// All sequences that can be run from the start within both bounds, dropped or not, in document 01's order; nothing if they are more than `most`.
+pub fn all_within(set: &Set, query: &Query, most: usize) -> Option<Vec<Ran>> {
+    let mut all = vec![begin(query)];
+    let mut shorter = 0..1;
+    for _ in 0..query.max_moves {
+        for from in shorter.clone() {
+            let longer: Vec<Ran> = extensions(set, query, &all[from]).collect();
+            all.extend(longer);
+            if all.len() > most {
+                return None;
+            }
+        }
+        shorter = shorter.end..all.len();
+    }
+    Some(all)
+}
+
+/// The plan among all those sequences: "every other one of them, dropped ones included, costs more, or costs as much and comes later". They are in order, and of equal ones
+/// `min_by_key` takes the first.
+pub fn plan_among<'a>(all: &'a [Ran], query: &Query) -> Option<&'a Ran> {
+    all.iter().filter(|ran| meets(&query.goal, &ran.state)).min_by_key(|ran| ran.cost)
+}
+
+/// "Steps are the number of sequences walked": those of them that are undropped.
+pub fn steps_among(all: &[Ran], rules: usize, reach: usize, entries: &[u16]) -> usize {
+    all.iter().filter(|ran| undropped(rules, reach, entries, &ran.sequence)).count()
+}
+
+/// The same number where all sequences are too many to list, up to `most` + 1. The front of an undropped sequence is undropped, so each is met by extending undropped ones.
+pub fn steps_up_to(set: &Set, query: &Query, reach: usize, entries: &[u16], most: usize) -> usize {
+    let mut steps = 0;
+    let mut left = vec![begin(query)];
+    while let Some(ran) = left.pop() {
+        steps += 1;
+        if steps > most {
+            break;
+        }
+        if ran.sequence.len() < query.max_moves {
+            let kept = |longer: &Ran| undropped(set.rules.len(), reach, entries, &longer.sequence[longer.sequence.len().saturating_sub(reach)..]);
+            left.extend(extensions(set, query, &ran).filter(kept));
+        }
+    }
+    steps
+}
+
+/// The same plan where all sequences are too many to list. For each length and each state it keeps the cheapest sequence of that length that leads there, the first in order of equal
+/// ones: whatever is run after it costs and does the same after each of the others.
+pub fn plan_by_states(set: &Set, query: &Query) -> Option<Ran> {
+    let mut best: Option<Ran> = None;
+    let mut ends = BTreeMap::from([(query.start.clone(), begin(query))]);
+    for moves in 0..=query.max_moves {
+        for ran in ends.values().filter(|ran| meets(&query.goal, &ran.state)) {
+            let better = |best: &Ran| (ran.cost, ran.sequence.len(), &ran.sequence) < (best.cost, best.sequence.len(), &best.sequence);
+            if best.as_ref().is_none_or(better) {
+                best = Some(ran.clone());
+            }
+        }
+        if moves < query.max_moves {
+            let mut longer: BTreeMap<State, Ran> = BTreeMap::new();
+            for ran in ends.values().flat_map(|ran| extensions(set, query, ran)) {
+                let place = longer.entry(ran.state.clone()).or_insert_with(|| ran.clone());
+                if (ran.cost, &ran.sequence) < (place.cost, &place.sequence) {
+                    *place = ran;
+                }
+            }
+            ends = longer;
+        }
+    }
+    best
+}

@@ -1,0 +1,88 @@
+//! The oracle against itself: its two ways to redundancy, to the plan and to the steps agree, and a macro does what its rules do in every state.
+
+use planner_tests::calls::Query;
+use planner_tests::draw;
+use planner_tests::oracle::model::Set;
+use planner_tests::oracle::redundancy::Redundancy;
+use planner_tests::oracle::search::{all_within, plan_among, plan_by_states, steps_among, steps_up_to};
+use planner_tests::oracle::sequences::{count, index, sequences};
+use planner_tests::oracle::symbolic::Run;
+use planner_tests::oracle::table::{accepted, built};
+use planner_tests::oracle::{file, writer};
+use planner_tests::random::{seed, Random};
+use std::io::Write;
+
+fn drawn(test: &str, sets: usize, states: usize, rules: usize, check: impl Fn(&mut Random, &Set)) {
+    let seed = seed();
+    writeln!(std::io::stdout(), "oracle, {test}: seed={seed} sets={sets}").expect("standard output");
+    let mut random = Random::new(seed);
+    for _ in 0..sets {
+        let set = draw::rule_set(&mut random, states, rules);
+        check(&mut random, &set);
+    }
+}
+
+#[test]
+fn indices_follow_the_order() {
+    for rules in 1..=31 {
+        for reach in 1..=if rules < 12 { 3 } else { 2 } {
+            let all = sequences(rules, reach);
+            assert_eq!(all.len(), count(rules, reach));
+            assert!(all.windows(2).all(|two| (two[0].len(), &two[0]) < (two[1].len(), &two[1])));
+            assert!(all.iter().enumerate().all(|(place, sequence)| index(rules, sequence) == place));
+        }
+    }
+    assert_eq!(count(31, 3), 30_784);
+}
+
+#[test]
+fn a_written_set_is_read_again() {
+    drawn("texts", 2000, usize::MAX, 31, |_, set| assert_eq!(file::read(&writer::write(set)).as_ref(), Ok(set)));
+}
+
+#[test]
+fn a_macro_does_what_its_rules_do() {
+    drawn("macros", 1500, 300, 8, |random, set| {
+        for _ in 0..6 {
+            let sequence: Vec<u8> = (0..random.from_to(0, 5)).map(|_| random.from_to(1, set.rules.len()) as u8).collect();
+            let whole = Run::of(set, &sequence).map(|run| run.as_rule(0));
+            for state in set.states() {
+                let by_macro = whole.as_ref().filter(|rule| rule.runs(&state)).map(|rule| rule.after(&state));
+                assert_eq!(by_macro, set.run(&sequence, &state), "{set:?} {sequence:?} {state:?}");
+            }
+            assert_eq!(whole.is_none(), set.states().iter().all(|state| set.run(&sequence, state).is_none()), "{set:?} {sequence:?}");
+        }
+    });
+}
+
+#[test]
+fn both_ways_to_redundancy_agree() {
+    drawn("redundancy", 500, 200, 6, |random, set| {
+        let reach = random.from_to(1, if set.rules.len() < 5 { 3 } else { 2 });
+        let (by_state, symbolic) = (Redundancy::by_state(set, reach), Redundancy::symbolic(set, reach));
+        for b in 0..by_state.count() {
+            for a in 0..by_state.count() {
+                assert_eq!(by_state.redundant(b, a), symbolic.redundant(b, a), "{set:?} {b} {a}");
+            }
+        }
+        assert!(accepted(&symbolic, &built(&by_state)));
+    });
+}
+
+#[test]
+fn both_ways_to_plan_and_steps_agree() {
+    drawn("queries", 1500, 200, 5, |random, set| {
+        let max_cost = random.pick(&[0, 2, 5, 9, 300, u16::MAX]);
+        let query = Query { max_moves: random.from_to(0, 6), max_cost, ..draw::query(random, set) };
+        let reach = random.from_to(1, 2);
+        let table = built(&Redundancy::new(set, reach));
+        if let Some(all) = all_within(set, &query, 20_000) {
+            let (listed, by_states) = (plan_among(&all, &query), plan_by_states(set, &query));
+            assert_eq!(listed.map(|ran| (&ran.sequence, ran.cost)), by_states.as_ref().map(|ran| (&ran.sequence, ran.cost)), "{set:?} {query:?}");
+            let steps = steps_among(&all, set.rules.len(), reach, &table);
+            for most in [0, steps - 1, steps, steps + 1, 30_000] {
+                assert_eq!(steps_up_to(set, &query, reach, &table, most), steps.min(most + 1), "{set:?} {query:?}");
+            }
+        }
+    });
+}
