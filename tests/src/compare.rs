@@ -68,6 +68,13 @@ impl Tally {
         shown.collect::<Vec<_>>().join(",")
     }
 
+    /// Panics unless each outcome of a rule file was read, 0 to 4, and so often at least.
+    pub fn require_files(&self, least: u64) {
+        for (outcome, count) in self.0[1][..5].iter().enumerate() {
+            assert!(*count >= least, "planner_read gave outcome {outcome} {count} times, fewer than {least}");
+        }
+    }
+
     /// Panics unless each entry gave each of its outcomes, each so often at least.
     pub fn require_all(&self, least: u64) {
         for (entry, outcomes) in OUTCOMES.iter().enumerate() {

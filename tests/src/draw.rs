@@ -66,11 +66,12 @@ fn two_alike(random: &mut Random, sizes: &[u8]) -> (usize, usize) {
     (one, if alike.is_empty() { one } else { random.pick(&alike) })
 }
 
-/// The lines of one more rule, some of them made from earlier rules.
-fn lines(random: &mut Random, sizes: &[u8], earlier: &[Rule]) -> (Vec<Entry>, Vec<Entry>) {
+/// One more rule, some of them made from earlier rules.
+fn rule(random: &mut Random, kinds: &[usize], sizes: &[u8], earlier: &[Rule], cost: u32) -> Rule {
     let (mut condition, mut effect) = (idle(sizes), idle(sizes));
     let (one, other) = two_alike(random, sizes);
-    match random.below(if earlier.is_empty() { 5 } else { 9 }) {
+    let kind = random.pick(kinds);
+    match if earlier.is_empty() { kind % 5 } else { kind } {
         // sets a position
         0 => effect[one] = value(random, sizes[one]),
         // turns one value into another
@@ -79,11 +80,11 @@ fn lines(random: &mut Random, sizes: &[u8], earlier: &[Rule]) -> (Vec<Entry>, Ve
         2 => effect.swap(one, other),
         // copies one position to another
         3 => effect[one] = Entry::Place(other),
-        4 => return loose(random, sizes),
+        4 => (condition, effect) = loose(random, sizes),
         // an earlier rule the other way round
         5 => {
             let rule = random.pick(earlier);
-            return (rule.effect, rule.condition);
+            (condition, effect) = (rule.effect, rule.condition);
         }
         // an earlier rule with another effect at one place, or none there
         6 => {
@@ -96,19 +97,20 @@ fn lines(random: &mut Random, sizes: &[u8], earlier: &[Rule]) -> (Vec<Entry>, Ve
             let rule = random.pick(earlier);
             let known = value(random, sizes[one]);
             let narrowed = |entry: &Entry| if *entry == Entry::Place(one) { known } else { *entry };
-            return (rule.condition.iter().map(narrowed).collect(), rule.effect.iter().map(narrowed).collect());
+            (condition, effect) = (rule.condition.iter().map(narrowed).collect(), rule.effect.iter().map(narrowed).collect());
         }
-        // two or three earlier rules in one
+        // two or three earlier rules in one, for about as much or for more
         _ => {
             let set = Set { sizes: sizes.to_vec(), rules: earlier.to_vec() };
             let sequence: Vec<u8> = (0..random.from_to(2, 3)).map(|_| random.from_to(1, earlier.len()) as u8).collect();
             if let Some(run) = Run::of(&set, &sequence) {
-                let rule = run.as_rule(0);
-                return (rule.condition, rule.effect);
+                let sum = set.cost(&sequence);
+                let about = random.pick(&[sum, sum.saturating_sub(1), sum + 1, 2 * sum + 1, cost]);
+                return run.as_rule(about.min(255));
             }
         }
     }
-    (condition, effect)
+    Rule { cost, condition, effect }
 }
 
 /// A cost, by the set's way with costs.
@@ -125,16 +127,27 @@ fn cost(random: &mut Random, way: usize, place: usize) -> u32 {
     }) as u32
 }
 
-/// A rule set that a file gives, with at most so many states and rules.
-pub fn rule_set(random: &mut Random, states: usize, most_rules: usize) -> Set {
-    let sizes = sizes(random, states);
+/// Sizes, the number of rules and their kinds: ways from value to value; exchanges of positions; values set and copied; all kinds.
+fn family(random: &mut Random, states: usize, most_rules: usize) -> (Vec<u8>, usize, &'static [usize]) {
     let number = random.from_to(1, most_rules);
+    match random.below(8) {
+        0 => (vec![random.from_to(4, 9) as u8], random.from_to(6, 20), &[1, 1, 1, 8, 8]),
+        1 => (vec![random.from_to(3, 6) as u8, random.from_to(2, 3) as u8], random.from_to(6, 20), &[1, 1, 1, 0, 8, 8]),
+        2 => (vec![random.pick(&[2, 3]); random.from_to(3, 5)], number, &[2, 2, 2, 5, 7, 8]),
+        3 => (sizes(random, states), number, &[0, 0, 3, 2, 7, 8]),
+        _ => (sizes(random, states), number, &[0, 1, 2, 3, 4, 5, 6, 7, 8]),
+    }
+}
+
+/// A rule set that a file gives, with at most so many states, or some hundreds, and so many rules, or twenty.
+pub fn rule_set(random: &mut Random, states: usize, most_rules: usize) -> Set {
+    let (sizes, number, kinds) = family(random, states, most_rules);
     let way = random.below(7);
     let mut set = Set { sizes, rules: vec![] };
     for _ in 0..4 * number {
-        let (condition, effect) = lines(random, &set.sizes, &set.rules);
         let cost = cost(random, way, set.rules.len());
-        set.rules.push(Rule { cost, condition, effect });
+        let rule = rule(random, kinds, &set.sizes, &set.rules, cost);
+        set.rules.push(rule);
         if read(&write(&set)).is_err() {
             set.rules.pop();
         }
@@ -152,16 +165,19 @@ pub fn state(random: &mut Random, sizes: &[u8]) -> State {
     sizes.iter().map(|&size| random.below(size as usize) as u8).collect()
 }
 
-/// A state that a random sequence leads to.
-fn reached(random: &mut Random, set: &Set, start: &[u8]) -> State {
-    let mut now = start.to_vec();
-    for _ in 0..random.below(8) {
-        let running: Vec<&Rule> = set.rules.iter().filter(|rule| rule.runs(&now)).collect();
-        if !running.is_empty() {
-            now = random.pick(&running).after(&now);
+/// Some of the states that can be reached, in the order in which a search in breadth meets them.
+fn reached(set: &Set, start: &[u8]) -> Vec<State> {
+    let mut met = vec![start.to_vec()];
+    let mut from = 0;
+    while from < met.len() && met.len() < 60 {
+        for rule in &set.rules {
+            if rule.runs(&met[from]) && !met.contains(&rule.after(&met[from])) {
+                met.push(rule.after(&met[from]));
+            }
         }
+        from += 1;
     }
-    now
+    met
 }
 
 /// A start in which some rule runs, most often; a goal that can be reached, most often, with some values left open. No bounds yet.
@@ -173,7 +189,10 @@ pub fn query(random: &mut Random, set: &Set) -> Query {
         }
         start = state(random, &set.sizes);
     }
-    let mut goal = if random.chance(80) { reached(random, set, &start) } else { state(random, &set.sizes) };
+    let met = reached(set, &start);
+    let far = random.from_to(met.len() / 2, met.len() - 1);
+    let any = state(random, &set.sizes);
+    let mut goal = random.pick(&[&met[far], &met[far], &met[far], &any, &start]).clone();
     let open = random.pick(&[0, 20, 60]);
     for byte in &mut goal {
         if random.chance(open) {
@@ -189,12 +208,16 @@ pub fn some_marks(random: &mut Random, entries: &[u16]) -> Vec<u16> {
     entries.iter().map(|&entry| if random.chance(share) { entry } else { KEPT }).collect()
 }
 
-/// The same marks with any witnesses that justify them.
+/// The same marks with other witnesses that justify them, where some are hit upon.
 pub fn other_witnesses(random: &mut Random, redundancy: &Redundancy, entries: &[u16]) -> Vec<u16> {
     let mut entries = entries.to_vec();
     for b in (0..entries.len()).filter(|&b| entries[b] != KEPT).collect::<Vec<_>>() {
-        let serving: Vec<usize> = (0..b).filter(|&a| redundancy.redundant(b, a)).collect();
-        entries[b] = random.pick(&serving) as u16;
+        for _ in 0..8 {
+            let a = random.below(b);
+            if redundancy.redundant(b, a) {
+                entries[b] = a as u16;
+            }
+        }
     }
     entries
 }
@@ -221,7 +244,7 @@ pub fn spoilt(random: &mut Random, entries: &[u16]) -> Vec<u16> {
             // another witness, or one mark more with the witness of another
             7 if !marks.is_empty() => {
                 let b = random.pick(&marks);
-                entries[b] = random.below(b) as u16;
+                entries[b] = random.below(b.max(1)) as u16;
             }
             8 if !marks.is_empty() => entries[b] = entries[random.pick(&marks)],
             _ => entries[b] = 0,

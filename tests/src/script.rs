@@ -2,9 +2,9 @@
 
 use crate::calls::{Call, Query};
 use crate::library::answer;
+use crate::oracle::file;
 use crate::oracle::sequences::{count, index};
 use crate::oracle::table::{bytes, KEPT};
-use crate::oracle::file;
 
 /// The numbers of a comma list; those that do not fit become the largest.
 fn numbers(list: &str) -> Vec<u64> {

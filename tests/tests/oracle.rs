@@ -57,7 +57,7 @@ fn a_macro_does_what_its_rules_do() {
 
 #[test]
 fn both_ways_to_redundancy_agree() {
-    drawn("redundancy", 500, 200, 6, |random, set| {
+    drawn("redundancy", 400, 200, 6, |random, set| {
         let reach = random.from_to(1, if set.rules.len() < 5 { 3 } else { 2 });
         let (by_state, symbolic) = (Redundancy::by_state(set, reach), Redundancy::symbolic(set, reach));
         for b in 0..by_state.count() {

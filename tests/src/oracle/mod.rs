@@ -16,7 +16,7 @@ use search::{all_within, plan_among, plan_by_states, steps_among, steps_up_to, R
 use symbolic::Run;
 
 /// The most sequences that are listed one by one; a search with more counts and looks for the plan by other ways.
-const LISTED: usize = 20_000;
+const LISTED: usize = 5_000;
 
 /// A rule file as judged, with the redundancies of each reach once they are asked for.
 pub struct Judged<'a> {

@@ -1,7 +1,7 @@
 //! Document 01, "Macros and needless sequences": "B is redundant with A if B costs no less than A, every yard that admits B admits A, and from each of those yards both lead
 //! to the same yard." By running both from every state where there are few, else by `symbolic`.
 
-use super::model::{Set, State};
+use super::model::{Rule, Set};
 use super::sequences::sequences;
 use super::symbolic::Run;
 
@@ -37,9 +37,12 @@ impl Redundancy {
     pub fn by_state(set: &Set, reach: usize) -> Self {
         let states = set.states();
         let number = |state| states.binary_search(&state).expect("a state of the set") as u16;
-        let leads_from = |sequence: &[u8], state: &State| set.run(sequence, state).map_or(NOWHERE, number);
+        let by_rule = |rule: &Rule| states.iter().map(|state| if rule.runs(state) { number(rule.after(state)) } else { NOWHERE }).collect();
+        let rules: Vec<Vec<u16>> = set.rules.iter().map(by_rule).collect();
+        let step = |state: u16, rule: &u8| if state == NOWHERE { NOWHERE } else { rules[*rule as usize - 1][state as usize] };
         let sequences = sequences(set.rules.len(), reach);
-        let leads: Vec<Vec<u16>> = sequences.iter().map(|sequence| states.iter().map(|state| leads_from(sequence, state)).collect()).collect();
+        let ends = |sequence: &Vec<u8>| (0..states.len() as u16).map(|state| sequence.iter().fold(state, step)).collect();
+        let leads: Vec<Vec<u16>> = sequences.iter().map(ends).collect();
         let admitting = leads.iter().map(|ends| (0..ends.len()).filter(|&state| ends[state] != NOWHERE).collect()).collect();
         Redundancy { costs: costs(set, &sequences), ways: Ways::ByState { admitting, leads } }
     }

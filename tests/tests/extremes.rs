@@ -1,0 +1,146 @@
+//! The largest inputs, and numbers and lengths that are absurd: each combination against the oracle.
+
+use planner_tests::calls::{Call, Query};
+use planner_tests::compare::{compare, compare_in, Tally};
+use planner_tests::oracle::{file, Judged};
+
+const E: &str = "positions=2\nsizes=2,2\nrules=2\ncost=1\nif=x1,x2\nthen=0,x2\ncost=1\nif=x1,x2\nthen=x1,0\n";
+
+/// Some of them would do in fewer bits.
+const NUMBERS: [usize; 22] = [
+    0,
+    1,
+    2,
+    3,
+    4,
+    31,
+    32,
+    33,
+    64,
+    255,
+    256,
+    257,
+    258,
+    65535,
+    65538,
+    (1 << 32) - 1,
+    (1 << 32) + 1,
+    (1 << 32) + 2,
+    (1 << 63) + 1,
+    (1 << 63) + 2,
+    usize::MAX - 1,
+    usize::MAX,
+];
+
+/// 31 rules that set five positions to each number from 1 to 31, at costs that vary.
+fn numbered() -> String {
+    let bits = |number: u32| (0..5).rev().map(|bit| (number >> bit & 1).to_string()).collect::<Vec<_>>().join(",");
+    let rules: String = (1..=31).map(|number| format!("cost={}\nif=x1,x2,x3,x4,x5\nthen={}\n", number * 37 % 256, bits(number))).collect();
+    format!("positions=5\nsizes=2,2,2,2,2\nrules=31\n{rules}")
+}
+
+/// The longest file that is read: 4,292 bytes.
+fn longest() -> String {
+    let idle: Vec<String> = (1..=16).map(|j| format!("x{j}")).collect();
+    let effect = |number: usize| {
+        let far = |bit: usize| if number >> bit & 1 == 1 { "x10" } else { "x16" };
+        (0..16).map(far).collect::<Vec<_>>().join(",")
+    };
+    let rules: String = (0..31).map(|number| format!("cost=255\nif={}\nthen={}\n", idle.join(","), effect(number))).collect();
+    format!("positions=16\nsizes={}\nrules=31\n{rules}", ["16"; 16].join(","))
+}
+
+#[test]
+fn absurd_numbers() {
+    let mut tally = Tally::default();
+    let set = file::read(E.as_bytes());
+    let mut judged = Judged::new(&set);
+    let rules = E.as_bytes().to_vec();
+    for reach in NUMBERS {
+        compare_in(&Call::TableSize { rules: rules.clone(), reach }, &mut judged, &mut tally);
+        for table_length in [0, 1, 2, 6, 13, 14, 15, 16, 30, 62, 65536] {
+            compare_in(&Call::BuildTable { rules: rules.clone(), table_length, reach }, &mut judged, &mut tally);
+            compare_in(&Call::CheckTable { rules: rules.clone(), table: vec![255; table_length], reach }, &mut judged, &mut tally);
+        }
+        for max_moves in NUMBERS {
+            for (max_cost, step_limit) in [(0, 0), (9, 4), (65535, u32::MAX), (1, 1)] {
+                for plan_length in [0, 2, 32, 33, 5000] {
+                    let query = Query { start: vec![1, 1], goal: vec![0, 0], max_moves, max_cost, step_limit };
+                    let table = vec![255, 255, 255, 255, 255, 255, 1, 0, 255, 255, 4, 0, 2, 0];
+                    compare_in(&Call::Search { rules: rules.clone(), table, reach, query, plan_length }, &mut judged, &mut tally);
+                }
+            }
+        }
+    }
+    for length in 0..40 {
+        for fill in [0, 1, 16, 254, 255] {
+            let query = Query { start: vec![fill; length], goal: vec![fill; length], max_moves: 2, max_cost: 9, step_limit: 99 };
+            let with_goal = Query { start: vec![1, 0], ..query.clone() };
+            for query in [query, with_goal] {
+                compare_in(&Call::Search { rules: rules.clone(), table: vec![255; 14], reach: 2, query, plan_length: 2 }, &mut judged, &mut tally);
+            }
+            compare_in(&Call::Macro { rules: rules.clone(), moves: vec![fill; length], out_length: length }, &mut judged, &mut tally);
+        }
+    }
+    assert!(tally.cases() > 8_000, "only {} cases", tally.cases());
+}
+
+#[test]
+fn long_buffers() {
+    let mut tally = Tally::default();
+    let text = |bytes: &[u8], more: usize, byte: u8| [bytes, &vec![byte; more]].concat();
+    for byte in [0, b'0', b'9', b'\n', b'x', 255] {
+        for front in ["", "positions=", "positions=1", E] {
+            compare(&Call::Read { text: text(front.as_bytes(), 100_000, byte) }, &mut tally);
+        }
+    }
+    let rules = E.as_bytes().to_vec();
+    compare(&Call::Rewrite { text: rules.clone(), out_length: 200_000 }, &mut tally);
+    compare(&Call::BuildTable { rules: rules.clone(), table_length: 200_000, reach: 2 }, &mut tally);
+    compare(&Call::CheckTable { rules: rules.clone(), table: vec![255; 200_000], reach: 2 }, &mut tally);
+    compare(&Call::Macro { rules: rules.clone(), moves: vec![1; 200_000], out_length: 200_000 }, &mut tally);
+    let query = Query { start: vec![1, 1], goal: vec![0, 0], max_moves: 2, max_cost: 9, step_limit: 99 };
+    compare(&Call::Search { rules: rules.clone(), table: vec![255; 14], reach: 2, query: query.clone(), plan_length: 200_000 }, &mut tally);
+    let wide = Query { start: vec![1; 100_000], goal: vec![1; 100_000], ..query };
+    compare(&Call::Search { rules, table: vec![255; 14], reach: 2, query: wide, plan_length: 2 }, &mut tally);
+}
+
+#[test]
+fn the_longest_file() {
+    let mut tally = Tally::default();
+    let text = longest().into_bytes();
+    assert_eq!(text.len(), 4292);
+    for out_length in [4291, 4292, 4293] {
+        compare(&Call::Rewrite { text: text.clone(), out_length }, &mut tally);
+    }
+    for reach in 0..5 {
+        assert_eq!(compare(&Call::TableSize { rules: text.clone(), reach }, &mut tally).size(), [0, 64, 1986, 61_568, 0][reach]);
+    }
+    for moves in [vec![1; 32], (1..=31).collect(), vec![31, 1, 30, 2]] {
+        compare(&Call::Macro { rules: text.clone(), moves, out_length: 34 }, &mut tally);
+    }
+    compare(&Call::BuildTable { rules: text.clone(), table_length: 1986, reach: 2 }, &mut tally);
+    let query = Query { start: (0..16).collect(), goal: vec![15; 16], max_moves: 2, max_cost: 65535, step_limit: 2000 };
+    compare(&Call::Search { rules: text, table: vec![255; 64], reach: 1, query, plan_length: 32 }, &mut tally);
+}
+
+#[test]
+fn the_largest_table() {
+    let mut tally = Tally::default();
+    let rules = numbered().into_bytes();
+    let set = file::read(&rules);
+    let mut judged = Judged::new(&set);
+    let table = compare_in(&Call::BuildTable { rules: rules.clone(), table_length: 61_568, reach: 3 }, &mut judged, &mut tally).buffer;
+    for length in [61_566, 61_567, 61_568, 61_569] {
+        let mut table = table.clone();
+        table.resize(length, 255);
+        compare_in(&Call::CheckTable { rules: rules.clone(), table, reach: 3 }, &mut judged, &mut tally);
+    }
+    for (start, goal) in [(0, 31), (5, 5), (31, 0)] {
+        let state = |number: u8| (0..5).rev().map(|bit| number >> bit & 1).collect::<Vec<_>>();
+        for table in [table.clone(), vec![255; 61_568]] {
+            let query = Query { start: state(start), goal: state(goal), max_moves: 3, max_cost: 65535, step_limit: 40_000 };
+            compare_in(&Call::Search { rules: rules.clone(), table, reach: 3, query, plan_length: 3 }, &mut judged, &mut tally);
+        }
+    }
+}

@@ -1,0 +1,383 @@
+//! Rule sets, tables, queries, sequences and damaged texts drawn at random: every answer, buffer and refusal against the oracle.
+//! The seed is PLANNER_TEST_SEED, else the clock's, and is printed. A run in which too little happened fails.
+
+use planner_tests::calls::{Answer, Call, Query};
+use planner_tests::compare::{compare, compare_in, Tally};
+use planner_tests::draw;
+use planner_tests::library;
+use planner_tests::oracle::model::{Entry, Rule, Set};
+use planner_tests::oracle::search::{all_within, meets, plan_by_states, steps_up_to, undropped, Ran};
+use planner_tests::oracle::sequences::count;
+use planner_tests::oracle::table::{built, bytes, KEPT};
+use planner_tests::oracle::{file, writer, Judged};
+use planner_tests::random::{seed, Random};
+use std::io::Write;
+
+const SETS: usize = 1600;
+
+/// The most sequences that a query may have to list, by the oracle or by the library.
+const LISTED: usize = 2_500;
+
+/// Numbers for a reach or a move bound that are too large, some of them not in fewer bits.
+const ABSURD: [usize; 8] = [33, 34, 255, 257, 65538, (1 << 32) + 2, (1 << 63) + 1, usize::MAX];
+
+/// What happened in a run, beside the outcomes. Each has to happen.
+#[derive(Default, Debug)]
+struct Seen {
+    /// tables with a mark, with a mark by another than the empty sequence, and accepted ones that are not the built one
+    tables_with_marks: u64,
+    marks_by_rules: u64,
+    tables_of_others: u64,
+    /// sets in which a sequence is redundant only with a later one, and in which it does the same as an earlier, dearer one
+    kept_for_later: u64,
+    kept_for_cost: u64,
+    /// queries not refused: in which marks drop sequences, or a cheapest plan; with a plan of two moves or more, or by way of a costless rule
+    queries_pruned: u64,
+    plans_pruned: u64,
+    plans_long: u64,
+    plans_costless: u64,
+    /// with two plans of least cost; with a dearer plan of fewer moves; with a plan that depth-first order meets before the one shown
+    ties: u64,
+    dearer_shorter: u64,
+    met_before: u64,
+    /// with a goal that leaves a value open, and goals that are met on the way
+    open_goals: u64,
+    beyond_goals: u64,
+    /// with more sequences than are listed, and with a state space too large to go through
+    deep: u64,
+    wide: u64,
+    /// searches refused with two causes or more
+    several_causes: u64,
+    /// macros run in every state
+    macros_run: u64,
+}
+
+struct Run {
+    random: Random,
+    tally: Tally,
+    seen: Seen,
+}
+
+/// One rule set with its file.
+struct Drawn<'a> {
+    set: &'a Set,
+    text: &'a [u8],
+    few_states: bool,
+}
+
+#[test]
+fn random_cases() {
+    let seed = seed();
+    writeln!(std::io::stdout(), "random: seed={seed}").expect("standard output");
+    let mut run = Run { random: Random::new(seed), tally: Tally::default(), seen: Seen::default() };
+    for _ in 0..SETS {
+        run.one_set();
+    }
+    writeln!(std::io::stdout(), "random: seed={seed} cases={} outcomes={}\nrandom: {:?}", run.tally.cases(), run.tally.outcomes(), run.seen)
+        .expect("standard output");
+    assert!(run.tally.cases() >= 20_000, "only {} cases", run.tally.cases());
+    run.tally.require_all(20);
+    run.seen.require_all(30);
+}
+
+impl Seen {
+    fn require_all(&self, least: u64) {
+        // each count by its name, as printed
+        for field in format!("{self:?}").trim_start_matches("Seen { ").trim_end_matches(" }").split(", ") {
+            let (name, number) = field.split_once(": ").expect("a name and a number");
+            assert!(number.parse::<u64>().expect("a number") >= least, "{name} {number} times, fewer than {least}");
+        }
+    }
+}
+
+impl Run {
+    fn one_set(&mut self) {
+        let (states, rules) = self.random.pick(&[(200, 4), (200, 4), (200, 7), (60, 14), (30, 31), (usize::MAX, 8), (usize::MAX, 31)]);
+        let set = draw::rule_set(&mut self.random, states, rules);
+        let text = writer::write(&set);
+        let read = file::read(&text);
+        assert_eq!(read.as_ref(), Ok(&set));
+        let mut judged = Judged::new(&read);
+        let drawn = Drawn { set: &set, text: &text, few_states: set.states_within(300).is_some() };
+        self.seen.wide += u64::from(!drawn.few_states);
+        self.files(&drawn, &mut judged);
+        self.macros(&drawn, &mut judged);
+        let reaches: Vec<usize> = (1..=3).filter(|&reach| count(set.rules.len(), reach) <= 1000).collect();
+        for &reach in &reaches {
+            self.build(&drawn, &mut judged, reach);
+        }
+        let reach = self.random.pick(&reaches);
+        let entries = built(judged.redundancy(reach));
+        self.note_tables(&drawn, &mut judged, reach, &entries);
+        for _ in 0..10 {
+            let table = self.table(&mut judged, reach, &entries);
+            self.check_table(&drawn, &mut judged, reach, table);
+        }
+        for _ in 0..20 {
+            let entries = self.table(&mut judged, reach, &entries);
+            self.search(&drawn, &mut judged, reach, &entries);
+        }
+    }
+
+    fn reach(&mut self) -> usize {
+        let absurd = self.random.pick(&ABSURD);
+        self.random.pick(&[0, 1, 2, 3, 4, absurd])
+    }
+
+    /// A text with a byte changed, put in or taken out, or cut.
+    fn damaged(&mut self, text: &[u8]) -> Vec<u8> {
+        let mut text = text.to_vec();
+        let at = self.random.below(text.len());
+        let byte = self.random.pick(b"0123456789,x\n= \0\xff");
+        match self.random.below(8) {
+            0 => drop(text.remove(at)),
+            1 => text.insert(at, byte),
+            2 => text.truncate(at),
+            3 => text.push(byte),
+            // one rule's lines twice, where there is more than one rule
+            4 => text = with_twins(&text),
+            // a digit or a variable changed
+            _ => {
+                let digits: Vec<usize> = (0..text.len()).filter(|&at| text[at].is_ascii_digit()).collect();
+                text[self.random.pick(&digits)] = self.random.pick(b"0123456789");
+            }
+        }
+        text
+    }
+
+    fn files(&mut self, drawn: &Drawn, judged: &mut Judged) {
+        let text = drawn.text.to_vec();
+        compare_in(&Call::Read { text: text.clone() }, judged, &mut self.tally);
+        let longer = text.len() + self.random.below(100);
+        for out_length in [text.len(), longer, text.len() - 1, self.random.below(text.len()), 0] {
+            compare_in(&Call::Rewrite { text: text.clone(), out_length }, judged, &mut self.tally);
+        }
+        for reach in [1, 2, 3, self.reach()] {
+            compare_in(&Call::TableSize { rules: text.clone(), reach }, judged, &mut self.tally);
+        }
+        for _ in 0..6 {
+            let text = self.damaged(drawn.text);
+            compare(&Call::Read { text: text.clone() }, &mut self.tally);
+            let length = self.random.pick(&[0, 1, 34, 400, text.len()]);
+            let (rules, reach) = (text.clone(), self.random.from_to(0, 2));
+            let call = match self.random.below(6) {
+                0 => Call::Rewrite { text, out_length: length },
+                1 => Call::TableSize { rules, reach },
+                2 => Call::BuildTable { rules, table_length: length, reach },
+                3 => Call::CheckTable { rules, table: vec![255; length], reach },
+                4 => Call::Macro { rules, moves: vec![1; length % 5], out_length: length },
+                _ => {
+                    let query = Query { step_limit: 1000, max_moves: self.random.below(40), ..draw::query(&mut self.random, drawn.set) };
+                    Call::Search { rules, table: vec![255; length], reach, query, plan_length: length }
+                }
+            };
+            compare(&call, &mut self.tally);
+        }
+    }
+
+    /// Macros, and what they do in every state where these are few.
+    fn macros(&mut self, drawn: &Drawn, judged: &mut Judged) {
+        for _ in 0..8 {
+            let length = self.random.pick(&[0, 1, 2, 2, 3, 3, 4, 5, 8, 31, 32, 33, 40]);
+            let mut moves: Vec<u8> = (0..length).map(|_| self.random.from_to(1, drawn.set.rules.len()) as u8).collect();
+            if length > 0 && self.random.chance(12) {
+                let at = self.random.below(length);
+                moves[at] = self.random.pick(&[0, drawn.set.rules.len() as u8 + 1, 32, 255]);
+            }
+            let out_length = self.random.pick(&[34, 34, 34, 33, 16, 1, 0, 35, 60]);
+            let call = Call::Macro { rules: drawn.text.to_vec(), moves: moves.clone(), out_length };
+            let answer = compare_in(&call, judged, &mut self.tally);
+            if drawn.few_states && out_length >= 34 && [0, 17].contains(&answer.outcome()) {
+                self.seen.macros_run += 1;
+                runs_as_its_rules(drawn.set, &call, &moves);
+            }
+        }
+    }
+
+    fn build(&mut self, drawn: &Drawn, judged: &mut Judged, reach: usize) {
+        let (rules, table_length) = (drawn.text.to_vec(), 2 * count(drawn.set.rules.len(), reach));
+        compare_in(&Call::BuildTable { rules: rules.clone(), table_length, reach }, judged, &mut self.tally);
+        let wrong = self.random.pick(&[0, 1, table_length - 1, table_length + 1, table_length + 2, 2 * table_length]);
+        compare_in(&Call::BuildTable { rules: rules.clone(), table_length: wrong, reach }, judged, &mut self.tally);
+        let reach = self.random.pick(&ABSURD);
+        compare_in(&Call::BuildTable { rules, table_length, reach }, judged, &mut self.tally);
+    }
+
+    fn note_tables(&mut self, drawn: &Drawn, judged: &mut Judged, reach: usize, entries: &[u16]) {
+        let seen = &mut self.seen;
+        seen.tables_with_marks += u64::from(entries.iter().any(|&entry| entry != KEPT));
+        seen.marks_by_rules += u64::from(entries.iter().any(|&entry| entry != KEPT && entry != 0));
+        if !self.random.chance(30) {
+            return;
+        }
+        let redundancy = judged.redundancy(reach);
+        let kept: Vec<usize> = (1..entries.len().min(100)).filter(|&b| entries[b] == KEPT).collect();
+        seen.kept_for_later += u64::from(kept.iter().any(|&b| (b + 1..entries.len()).any(|a| redundancy.redundant(b, a))));
+        let free = Set { rules: drawn.set.rules.iter().map(|rule| Rule { cost: 0, ..rule.clone() }).collect(), ..drawn.set.clone() };
+        let of_free = Ok(free);
+        let mut without_costs = Judged::new(&of_free);
+        let redundancy = without_costs.redundancy(reach);
+        seen.kept_for_cost += u64::from(kept.iter().any(|&b| (0..b).any(|a| redundancy.redundant(b, a))));
+    }
+
+    /// The built table; some of its marks, other witnesses, none, both; or one that is most often not accepted.
+    fn table(&mut self, judged: &mut Judged, reach: usize, entries: &[u16]) -> Vec<u16> {
+        let redundancy = judged.redundancy(reach);
+        let accepted = match self.random.below(10) {
+            0..=4 => return entries.to_vec(),
+            5 | 6 => draw::some_marks(&mut self.random, entries),
+            7 => draw::other_witnesses(&mut self.random, redundancy, entries),
+            8 => {
+                let some = draw::some_marks(&mut self.random, entries);
+                draw::other_witnesses(&mut self.random, redundancy, &some)
+            }
+            _ => return draw::spoilt(&mut self.random, entries),
+        };
+        self.seen.tables_of_others += u64::from(accepted != entries);
+        accepted
+    }
+
+    fn check_table(&mut self, drawn: &Drawn, judged: &mut Judged, reach: usize, entries: Vec<u16>) {
+        let entries = if self.random.chance(40) { draw::spoilt(&mut self.random, &entries) } else { entries };
+        let mut table = bytes(&entries);
+        let mut reach = reach;
+        match self.random.below(20) {
+            0 => reach = self.reach(),
+            1 => table.truncate(self.random.below(table.len())),
+            2 => table.push(255),
+            3 => {
+                let at = self.random.below(table.len());
+                table[at] = self.random.pick(&[0, 1, 254, 255]);
+            }
+            4 => table = table.iter().map(|_| self.random.below(256) as u8).collect(),
+            _ => {}
+        }
+        compare_in(&Call::CheckTable { rules: drawn.text.to_vec(), table, reach }, judged, &mut self.tally);
+    }
+
+    fn search(&mut self, drawn: &Drawn, judged: &mut Judged, reach: usize, entries: &[u16]) {
+        let query = self.query(drawn, reach, entries);
+        let plan_length = query.max_moves + self.random.pick(&[0, 0, 1, 7, 32, 100]);
+        let sound = Call::Search { rules: drawn.text.to_vec(), table: bytes(entries), reach, query, plan_length };
+        if !self.random.chance(25) {
+            let answer = compare_in(&sound, judged, &mut self.tally);
+            self.note_search(drawn, reach, entries, &sound, &answer);
+            return;
+        }
+        let causes = self.random.pick(&[1, 1, 2, 3, 6]);
+        let mut call = sound;
+        for _ in 0..causes {
+            call = self.faulty(drawn, call);
+        }
+        self.seen.several_causes += u64::from(causes > 1);
+        compare(&call, &mut self.tally);
+    }
+
+    /// A query with bounds about what matters: the plan's cost, and the number of steps.
+    fn query(&mut self, drawn: &Drawn, reach: usize, entries: &[u16]) -> Query {
+        let mut query = draw::query(&mut self.random, drawn.set);
+        query.max_moves = self.random.pick(&[0, 1, 2, 3, 4, 5, 6, 7, 8, 12, 32]);
+        if !drawn.few_states || self.random.chance(60) {
+            let listed = |&moves: &usize| all_within(drawn.set, &Query { max_moves: moves, ..query.clone() }, LISTED).is_some();
+            query.max_moves = (0..=query.max_moves).take_while(listed).last().unwrap_or(0);
+        }
+        let cheapest = plan_by_states(drawn.set, &query).map_or(9, |plan| plan.cost as u16);
+        let cost = self.random.below(20) as u16;
+        query.max_cost = self.random.pick(&[65535, 65535, cheapest, cheapest, cheapest.saturating_sub(1), cheapest + 1, 2 * cheapest, 0, cost]);
+        let steps = steps_up_to(drawn.set, &query, reach, entries, LISTED) as u32;
+        let below = self.random.below(steps as usize) as u32;
+        query.step_limit = if steps as usize > LISTED {
+            self.random.pick(&[0, 1, below, steps - 1])
+        } else {
+            self.random.pick(&[steps, steps, steps, steps, u32::MAX, u32::MAX, steps + 1, steps - 1, below, 0])
+        };
+        query
+    }
+
+    /// The call with one thing wrong, or one more.
+    fn faulty(&mut self, drawn: &Drawn, call: Call) -> Call {
+        let Call::Search { mut rules, mut table, mut reach, mut query, mut plan_length } = call else {
+            return call;
+        };
+        let at = self.random.below(drawn.set.sizes.len());
+        let wrong = [drawn.set.sizes[at], 16, 17, 254, 255];
+        match self.random.below(16) {
+            0 => reach = self.reach(),
+            1 => table.push(0),
+            2 => table.truncate(self.random.below(table.len().max(1))),
+            3 => query.start.push(0),
+            4 => drop(query.start.pop()),
+            5 | 6 if at < query.start.len() => query.start[at] = self.random.pick(&wrong),
+            7 => query.goal.push(255),
+            8 => drop(query.goal.pop()),
+            9 | 10 if at < query.goal.len() => query.goal[at] = self.random.pick(&wrong[..4]),
+            11 => query.max_moves = self.random.pick(&ABSURD),
+            12 => plan_length = query.max_moves.saturating_sub(1).min(40),
+            13 => table = vec![0; table.len()],
+            14 => query.step_limit = 0,
+            _ => {
+                if self.random.chance(40) {
+                    rules = self.damaged(&rules);
+                } else if table.len() > 2 {
+                    table[2] ^= 1;
+                }
+            }
+        }
+        // what is still to be searched must not be too much
+        query.step_limit = query.step_limit.min(LISTED as u32);
+        Call::Search { rules, table, reach, query, plan_length }
+    }
+
+    fn note_search(&mut self, drawn: &Drawn, reach: usize, entries: &[u16], call: &Call, answer: &Answer) {
+        let Call::Search { query, .. } = call else {
+            return;
+        };
+        if ![0, 15].contains(&answer.outcome()) {
+            return;
+        }
+        let seen = &mut self.seen;
+        let Some(all) = all_within(drawn.set, query, LISTED) else {
+            seen.deep += 1;
+            return;
+        };
+        seen.queries_pruned += u64::from((answer.steps() as usize) < all.len());
+        let plans: Vec<&Ran> = all.iter().filter(|ran| meets(&query.goal, &ran.state)).collect();
+        if answer.outcome() != 0 {
+            return;
+        }
+        let cheapest: Vec<&&Ran> = plans.iter().filter(|ran| u64::from(ran.cost) == answer.cost()).collect();
+        let shown = &answer.buffer[..answer.length()];
+        seen.plans_pruned += u64::from(cheapest.iter().any(|ran| !undropped(drawn.set.rules.len(), reach, entries, &ran.sequence)));
+        seen.plans_long += u64::from(shown.len() > 1);
+        seen.plans_costless += u64::from(shown.iter().any(|&number| drawn.set.rule(number).cost == 0));
+        seen.ties += u64::from(cheapest.len() > 1 && !shown.is_empty());
+        seen.dearer_shorter += u64::from(plans.iter().any(|ran| ran.sequence.len() < shown.len()));
+        seen.met_before += u64::from(plans.iter().any(|ran| ran.sequence[..] < *shown && undropped(drawn.set.rules.len(), reach, entries, &ran.sequence)));
+        seen.open_goals += u64::from(query.goal.contains(&255) && !shown.is_empty());
+        seen.beyond_goals += u64::from(plans.len() > 1);
+    }
+}
+
+/// The file with the lines of its first rule in the place of its second rule's.
+fn with_twins(text: &[u8]) -> Vec<u8> {
+    let mut lines: Vec<&[u8]> = text.split(|&byte| byte == b'\n').collect();
+    if lines.len() > 9 {
+        (lines[7], lines[8]) = (lines[4], lines[5]);
+    }
+    lines.join(&b'\n')
+}
+
+/// The library's macro, run in every state, against the rules in turn.
+fn runs_as_its_rules(set: &Set, call: &Call, moves: &[u8]) {
+    let answer = library::answer(call);
+    let positions = set.sizes.len();
+    let line = |from: usize| {
+        answer.buffer[from..from + positions].iter().map(|&byte| if byte < 16 { Entry::Value(byte) } else { Entry::Place(byte as usize - 16) }).collect()
+    };
+    let rule = Rule { cost: u16::from_le_bytes([answer.buffer[32], answer.buffer[33]]).into(), condition: line(0), effect: line(16) };
+    for state in set.states() {
+        let whole = (answer.outcome() == 0 && rule.runs(&state)).then(|| rule.after(&state));
+        assert!(whole == set.run(moves, &state), "the macro differs from its rules in {state:?}:\n{call}\n{answer}");
+    }
+    assert!(answer.outcome() == 17 || rule.cost == set.cost(moves), "the macro's cost differs from its rules':\n{call}\n{answer}");
+}
