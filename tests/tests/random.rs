@@ -283,7 +283,8 @@ impl Run {
         }
         let cheapest = plan_by_states(drawn.set, &query).map_or(9, |plan| plan.cost as u16);
         let cost = self.random.below(20) as u16;
-        query.max_cost = self.random.pick(&[65535, 65535, cheapest, cheapest, cheapest.saturating_sub(1), cheapest + 1, 2 * cheapest, 0, cost]);
+        query.max_cost =
+            self.random.pick(&[65535, 65535, 65535, 65535, 65535, cheapest, cheapest, cheapest.saturating_sub(1), cheapest + 1, 2 * cheapest, 0, cost]);
         let steps = steps_up_to(drawn.set, &query, reach, entries, LISTED) as u32;
         let below = self.random.below(steps as usize) as u32;
         query.step_limit = if steps as usize > LISTED {
