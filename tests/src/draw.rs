@@ -105,7 +105,7 @@ fn rule(random: &mut Random, kinds: &[usize], sizes: &[u8], earlier: &[Rule], co
             let sequence: Vec<u8> = (0..random.from_to(2, 3)).map(|_| random.from_to(1, earlier.len()) as u8).collect();
             if let Some(run) = Run::of(&set, &sequence) {
                 let sum = set.cost(&sequence);
-                let about = random.pick(&[sum, sum.saturating_sub(1), sum + 1, 2 * sum + 1, cost]);
+                let about = random.pick(&[sum, sum.saturating_sub(1), sum + 1, 2 * sum + 1, 3 * sum + 1, cost]);
                 return run.as_rule(about.min(255));
             }
         }

@@ -1,8 +1,9 @@
 //! The largest inputs, and numbers and lengths that are absurd: each combination against the oracle.
 
 use planner_tests::calls::{Call, Query};
-use planner_tests::compare::{compare, compare_in, Tally};
-use planner_tests::oracle::{file, Judged};
+use planner_tests::compare::{check, compare, compare_in, Tally};
+use planner_tests::oracle::{expected, file, Judged};
+use planner_tests::stack::{within, PLANNER_STACK, TEST_STACK};
 
 const E: &str = "positions=2\nsizes=2,2\nrules=2\ncost=1\nif=x1,x2\nthen=0,x2\ncost=1\nif=x1,x2\nthen=x1,0\n";
 
@@ -52,6 +53,10 @@ fn longest() -> String {
 
 #[test]
 fn absurd_numbers() {
+    within(TEST_STACK, absurd_numbers_compared);
+}
+
+fn absurd_numbers_compared() {
     let mut tally = Tally::default();
     let set = file::read(E.as_bytes());
     let mut judged = Judged::new(&set);
@@ -87,6 +92,10 @@ fn absurd_numbers() {
 
 #[test]
 fn long_buffers() {
+    within(TEST_STACK, long_buffers_compared);
+}
+
+fn long_buffers_compared() {
     let mut tally = Tally::default();
     let text = |bytes: &[u8], more: usize, byte: u8| [bytes, &vec![byte; more]].concat();
     for byte in [0, b'0', b'9', b'\n', b'x', 255] {
@@ -107,6 +116,10 @@ fn long_buffers() {
 
 #[test]
 fn the_longest_file() {
+    within(TEST_STACK, the_longest_file_compared);
+}
+
+fn the_longest_file_compared() {
     let mut tally = Tally::default();
     let text = longest().into_bytes();
     assert_eq!(text.len(), 4292);
@@ -126,6 +139,10 @@ fn the_longest_file() {
 
 #[test]
 fn the_largest_table() {
+    within(TEST_STACK, the_largest_table_compared);
+}
+
+fn the_largest_table_compared() {
     let mut tally = Tally::default();
     let rules = numbered().into_bytes();
     let set = file::read(&rules);
@@ -142,5 +159,27 @@ fn the_largest_table() {
             let query = Query { start: state(start), goal: state(goal), max_moves: 3, max_cost: 65535, step_limit: 40_000 };
             compare_in(&Call::Search { rules: rules.clone(), table, reach: 3, query, plan_length: 3 }, &mut judged, &mut tally);
         }
+    }
+}
+
+#[test]
+fn each_call_within_its_stack() {
+    let (rules, longest) = (numbered().into_bytes(), longest().into_bytes());
+    let all_kept = vec![255; 61_568];
+    let deep = Query { start: vec![0; 5], goal: vec![255, 255, 255, 255, 0], max_moves: 32, max_cost: 65535, step_limit: 5_000 };
+    let far = Query { start: (0..16).collect(), goal: vec![15; 16], max_moves: 32, max_cost: 65535, step_limit: 5_000 };
+    let calls = [
+        Call::Read { text: longest.clone() },
+        Call::Rewrite { text: longest.clone(), out_length: 5_000 },
+        Call::TableSize { rules: longest.clone(), reach: 3 },
+        Call::BuildTable { rules: rules.clone(), table_length: 61_568, reach: 3 },
+        Call::CheckTable { rules: rules.clone(), table: all_kept.clone(), reach: 3 },
+        Call::Macro { rules: longest.clone(), moves: vec![31; 32], out_length: 34 },
+        Call::Search { rules, table: all_kept.clone(), reach: 3, query: deep, plan_length: 32 },
+        Call::Search { rules: longest, table: all_kept, reach: 3, query: far, plan_length: 32 },
+    ];
+    for call in calls {
+        let answer = expected(&call);
+        within(PLANNER_STACK, || check(&call, &answer));
     }
 }

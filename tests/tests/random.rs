@@ -11,9 +11,10 @@ use planner_tests::oracle::sequences::count;
 use planner_tests::oracle::table::{built, bytes, KEPT};
 use planner_tests::oracle::{file, writer, Judged};
 use planner_tests::random::{seed, Random};
+use planner_tests::stack::{within, TEST_STACK};
 use std::io::Write;
 
-const SETS: usize = 1600;
+const SETS: usize = 1000;
 
 /// The most sequences that a query may have to list, by the oracle or by the library.
 const LISTED: usize = 2_500;
@@ -43,9 +44,10 @@ struct Seen {
     /// with a goal that leaves a value open, and goals that are met on the way
     open_goals: u64,
     beyond_goals: u64,
-    /// with more sequences than are listed, and with a state space too large to go through
+    /// with more sequences than are listed; sets with more states than are gone through, and with twelve positions or more
     deep: u64,
     wide: u64,
+    many_positions: u64,
     /// searches refused with two causes or more
     several_causes: u64,
     /// macros run in every state
@@ -67,6 +69,10 @@ struct Drawn<'a> {
 
 #[test]
 fn random_cases() {
+    within(TEST_STACK, run_all);
+}
+
+fn run_all() {
     let seed = seed();
     writeln!(std::io::stdout(), "random: seed={seed}").expect("standard output");
     let mut run = Run { random: Random::new(seed), tally: Tally::default(), seen: Seen::default() };
@@ -76,8 +82,8 @@ fn random_cases() {
     writeln!(std::io::stdout(), "random: seed={seed} cases={} outcomes={}\nrandom: {:?}", run.tally.cases(), run.tally.outcomes(), run.seen)
         .expect("standard output");
     assert!(run.tally.cases() >= 20_000, "only {} cases", run.tally.cases());
-    run.tally.require_all(20);
-    run.seen.require_all(30);
+    run.tally.require_all(10);
+    run.seen.require_all(10);
 }
 
 impl Seen {
@@ -100,6 +106,7 @@ impl Run {
         let mut judged = Judged::new(&read);
         let drawn = Drawn { set: &set, text: &text, few_states: set.states_within(300).is_some() };
         self.seen.wide += u64::from(!drawn.few_states);
+        self.seen.many_positions += u64::from(set.sizes.len() >= 12);
         self.files(&drawn, &mut judged);
         self.macros(&drawn, &mut judged);
         let reaches: Vec<usize> = (1..=3).filter(|&reach| count(set.rules.len(), reach) <= 1000).collect();

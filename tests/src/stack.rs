@@ -1,0 +1,18 @@
+//! Threads with a small stack. A call that needs more ends the whole test program.
+
+use std::panic::resume_unwind;
+use std::thread::{scope, Builder};
+
+/// The header's PLANNER_STACK: what a call needs.
+pub const PLANNER_STACK: usize = 262_144;
+
+/// What the tests run in, oracle included.
+pub const TEST_STACK: usize = 524_288;
+
+/// Runs it on a thread with so many bytes of stack.
+pub fn within<T: Send>(bytes: usize, run: impl FnOnce() -> T + Send) -> T {
+    scope(|threads| {
+        let thread = Builder::new().stack_size(bytes).spawn_scoped(threads, run).expect("a thread");
+        thread.join().unwrap_or_else(|panic| resume_unwind(panic))
+    })
+}
