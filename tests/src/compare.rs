@@ -3,6 +3,9 @@
 use crate::calls::{Answer, Call, ENTRIES};
 use crate::library;
 use crate::oracle::{self, Judged};
+use std::env;
+use std::io::{self, Write};
+use std::sync::OnceLock;
 use std::thread;
 
 /// The outcomes that each entry can give, in the order of `ENTRIES`. No entry gives 7.
@@ -31,8 +34,17 @@ impl Drop for Shown<'_> {
     }
 }
 
+/// Whether each call is printed before it is made, so that one that ends the program is seen: PLANNER_TEST_TRACE.
+fn traced() -> bool {
+    static TRACED: OnceLock<bool> = OnceLock::new();
+    *TRACED.get_or_init(|| env::var_os("PLANNER_TEST_TRACE").is_some())
+}
+
 /// Makes the call and panics unless the answer is this one.
 pub fn check(call: &Call, expected: &Answer) {
+    if traced() {
+        writeln!(io::stdout(), "{call}").expect("standard output");
+    }
     let _shown = Shown(call);
     let got = library::answer(call);
     assert!(got == *expected, "\nexpected {expected}\n     got {got}");

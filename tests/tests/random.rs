@@ -6,7 +6,7 @@ use planner_tests::compare::{compare, compare_in, Tally};
 use planner_tests::draw;
 use planner_tests::library;
 use planner_tests::oracle::model::{Entry, Rule, Set};
-use planner_tests::oracle::search::{all_within, meets, plan_by_states, steps_up_to, undropped, Ran};
+use planner_tests::oracle::search::{all_within, meets, plan_by_states, steps_up_to, unpruned, Ran};
 use planner_tests::oracle::sequences::count;
 use planner_tests::oracle::table::{built, bytes, KEPT};
 use planner_tests::oracle::{file, writer, Judged};
@@ -136,13 +136,24 @@ impl Run {
         let mut text = text.to_vec();
         let at = self.random.below(text.len());
         let byte = self.random.pick(b"0123456789,x\n= \0\xff");
-        match self.random.below(8) {
+        match self.random.below(9) {
             0 => drop(text.remove(at)),
             1 => text.insert(at, byte),
             2 => text.truncate(at),
             3 => text.push(byte),
             // one rule's lines twice, where there is more than one rule
-            4 => text = with_twins(&text),
+            4 => text = with_duplicates(&text),
+            // a number about a limit
+            5 => {
+                let mut items: Vec<&[u8]> = text.split_inclusive(|byte| b"=,x\n".contains(byte)).collect();
+                let numbers: Vec<usize> = (0..items.len()).filter(|&item| items[item][0].is_ascii_digit()).collect();
+                let number = self.random.pick(&["0", "1", "2", "3", "15", "16", "17", "31", "32", "255", "256", "999", "1000", "00", "016"]);
+                let item = self.random.pick(&numbers);
+                let ending = &items[item][items[item].len() - 1..];
+                let changed = [number.as_bytes(), ending].concat();
+                items[item] = &changed;
+                text = items.concat();
+            }
             // a digit or a variable changed
             _ => {
                 let digits: Vec<usize> = (0..text.len()).filter(|&at| text[at].is_ascii_digit()).collect();
@@ -355,19 +366,19 @@ impl Run {
         }
         let cheapest: Vec<&&Ran> = plans.iter().filter(|ran| u64::from(ran.cost) == answer.cost()).collect();
         let shown = &answer.buffer[..answer.length()];
-        seen.plans_pruned += u64::from(cheapest.iter().any(|ran| !undropped(drawn.set.rules.len(), reach, entries, &ran.sequence)));
+        seen.plans_pruned += u64::from(cheapest.iter().any(|ran| !unpruned(drawn.set.rules.len(), reach, entries, &ran.sequence)));
         seen.plans_long += u64::from(shown.len() > 1);
         seen.plans_costless += u64::from(shown.iter().any(|&number| drawn.set.rule(number).cost == 0));
         seen.ties += u64::from(cheapest.len() > 1 && !shown.is_empty());
         seen.dearer_shorter += u64::from(plans.iter().any(|ran| ran.sequence.len() < shown.len()));
-        seen.met_before += u64::from(plans.iter().any(|ran| ran.sequence[..] < *shown && undropped(drawn.set.rules.len(), reach, entries, &ran.sequence)));
+        seen.met_before += u64::from(plans.iter().any(|ran| ran.sequence[..] < *shown && unpruned(drawn.set.rules.len(), reach, entries, &ran.sequence)));
         seen.open_goals += u64::from(query.goal.contains(&255) && !shown.is_empty());
         seen.beyond_goals += u64::from(plans.len() > 1);
     }
 }
 
 /// The file with the lines of its first rule in the place of its second rule's.
-fn with_twins(text: &[u8]) -> Vec<u8> {
+fn with_duplicates(text: &[u8]) -> Vec<u8> {
     let mut lines: Vec<&[u8]> = text.split(|&byte| byte == b'\n').collect();
     if lines.len() > 9 {
         (lines[7], lines[8]) = (lines[4], lines[5]);

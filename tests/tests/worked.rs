@@ -137,7 +137,7 @@ fn p8_p9_and_p10() {
     let p10 = table(21, &[(6, 7)]);
     checks(H, 2, p10.clone(), 14);
     Asked { table: &p10, ..p9 }.gives(14, &[], 0, 0);
-    // source 000: ab dropped for ac, and cd for bd, lose both cheapest orders; the second alone loses none
+    // source 000: ab pruned for ac, and cd for bd, lose both cheapest orders; the second alone loses none
     let both = table(21, &[(6, 7), (16, 12)]);
     checks(H, 2, both.clone(), 14);
     Asked { table: &both, ..p9 }.gives(14, &[], 0, 0);
@@ -183,10 +183,10 @@ fn faults_of_a_file_in_text_order() {
     reads(&two("if=x1,x1/then=x2,0/"), 3);
     reads("positions=2/sizes=3,4/rules=1/cost=1/if=x1,x1/then=0,0/", 3);
     reads("positions=2/sizes=3,4/rules=1/cost=1/if=x1,x2/then=x2,0/", 3);
-    // twins come last, after bytes that are left over; costs do not tell rules apart
-    let twins = "positions=1/sizes=2/rules=2/cost=1/if=0/then=1/cost=2/if=0/then=1/";
-    reads(twins, 4);
-    reads(&format!("{twins}/"), 1);
+    // duplicates come last, after bytes that are left over; costs do not tell rules apart
+    let duplicates = "positions=1/sizes=2/rules=2/cost=1/if=0/then=1/cost=2/if=0/then=1/";
+    reads(duplicates, 4);
+    reads(&format!("{duplicates}/"), 1);
 }
 
 #[test]

@@ -9,7 +9,7 @@ const LIMIT: u8 = 2;
 /// 3: "a variable out of place".
 const VARIABLE: u8 = 3;
 /// 4: "twins".
-const TWINS: u8 = 4;
+const DUPLICATES: u8 = 4;
 
 const LINE_FEED: u8 = 10;
 
@@ -142,8 +142,8 @@ pub fn read(bytes: &[u8]) -> Result<Set, u8> {
         return Err(FORM);
     }
     // "Twins come last."
-    if (0..rules.len()).any(|later| (0..later).any(|earlier| rules[later].is_twin_of(&rules[earlier]))) {
-        return Err(TWINS);
+    if (0..rules.len()).any(|later| (0..later).any(|earlier| rules[later].is_duplicate_of(&rules[earlier]))) {
+        return Err(DUPLICATES);
     }
     Ok(Set { sizes, rules })
 }

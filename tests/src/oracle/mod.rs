@@ -88,7 +88,7 @@ impl<'a> Judged<'a> {
             return refusal(outcome, vec![255; plan_length]);
         }
         let limit = query.step_limit;
-        let (steps, plan) = walked(set, reach, &table::entries(table), query);
+        let (steps, plan) = visited(set, reach, &table::entries(table), query);
         let (outcome, steps) = match &plan {
             _ if steps > limit as usize => (16, limit),
             None => (15, steps as u32),
@@ -104,7 +104,7 @@ impl<'a> Judged<'a> {
 }
 
 /// The number of steps, as far as it tells whether it is above the ceiling, and the plan, which is not looked for above it.
-fn walked(set: &Set, reach: usize, entries: &[u16], query: &Query) -> (usize, Option<Ran>) {
+fn visited(set: &Set, reach: usize, entries: &[u16], query: &Query) -> (usize, Option<Ran>) {
     if let Some(all) = all_within(set, query, LISTED) {
         return (steps_among(&all, set.rules.len(), reach, entries), plan_among(&all, query).cloned());
     }

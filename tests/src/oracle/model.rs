@@ -42,7 +42,7 @@ impl Rule {
     }
 
     /// "Two rules are twins if their `if` lines and their `then` lines are equal."
-    pub fn is_twin_of(&self, other: &Rule) -> bool {
+    pub fn is_duplicate_of(&self, other: &Rule) -> bool {
         self.condition == other.condition && self.effect == other.effect
     }
 }

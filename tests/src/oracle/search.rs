@@ -1,4 +1,4 @@
-//! Document 01, "The walk": the steps by count, and the cheapest plan by a search that drops nothing.
+//! Document 01, "The walk": the steps by count, and the cheapest plan by a search that prunes nothing.
 
 use super::model::{Set, State};
 use super::sequences::index;
@@ -20,7 +20,7 @@ pub fn meets(goal: &[u8], state: &[u8]) -> bool {
 }
 
 /// "It is undropped if no stretch of neighbouring rules in it, from one rule to the whole, is marked"; the table has the stretches of at most `reach` rules.
-pub fn undropped(rules: usize, reach: usize, entries: &[u16], sequence: &[u8]) -> bool {
+pub fn unpruned(rules: usize, reach: usize, entries: &[u16], sequence: &[u8]) -> bool {
     let marked = |stretch: &[u8]| entries[index(rules, stretch)] != KEPT;
     (1..=reach).all(|length| !sequence.windows(length).any(marked))
 }
@@ -39,7 +39,7 @@ fn extensions<'a>(set: &'a Set, query: &'a Query, ran: &'a Ran) -> impl Iterator
     })
 }
 
-/// All sequences that can be run from the start within both bounds, dropped or not, in document 01's order; nothing if they are more than `most`.
+/// All sequences that can be run from the start within both bounds, pruned or not, in document 01's order; nothing if they are more than `most`.
 pub fn all_within(set: &Set, query: &Query, most: usize) -> Option<Vec<Ran>> {
     let mut all = vec![begin(query)];
     let mut shorter = 0..1;
@@ -64,10 +64,10 @@ pub fn plan_among<'a>(all: &'a [Ran], query: &Query) -> Option<&'a Ran> {
 
 /// "Steps are the number of sequences walked": those of them that are undropped.
 pub fn steps_among(all: &[Ran], rules: usize, reach: usize, entries: &[u16]) -> usize {
-    all.iter().filter(|ran| undropped(rules, reach, entries, &ran.sequence)).count()
+    all.iter().filter(|ran| unpruned(rules, reach, entries, &ran.sequence)).count()
 }
 
-/// The same number where all sequences are too many to list, up to `most` + 1. The front of an undropped sequence is undropped, so each is met by extending undropped ones.
+/// The same number where all sequences are too many to list, up to `most` + 1. The front of an unpruned sequence is unpruned, so each is met by extending unpruned ones.
 pub fn steps_up_to(set: &Set, query: &Query, reach: usize, entries: &[u16], most: usize) -> usize {
     let mut steps = 0;
     let mut left = vec![begin(query)];
@@ -77,7 +77,7 @@ pub fn steps_up_to(set: &Set, query: &Query, reach: usize, entries: &[u16], most
             break;
         }
         if ran.sequence.len() < query.max_moves {
-            let kept = |longer: &Ran| undropped(set.rules.len(), reach, entries, &longer.sequence[longer.sequence.len().saturating_sub(reach)..]);
+            let kept = |longer: &Ran| unpruned(set.rules.len(), reach, entries, &longer.sequence[longer.sequence.len().saturating_sub(reach)..]);
             left.extend(extensions(set, query, &ran).filter(kept));
         }
     }
