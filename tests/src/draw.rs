@@ -135,7 +135,7 @@ fn family(random: &mut Random, states: usize, most_rules: usize) -> (Vec<u8>, us
         1 => (vec![random.from_to(3, 6) as u8, random.from_to(2, 3) as u8], random.from_to(6, 20), &[1, 1, 1, 0, 8, 8]),
         2 => (vec![random.pick(&[2, 3]); random.from_to(3, 5)], number, &[2, 2, 2, 5, 7, 8]),
         3 => (sizes(random, states), number, &[0, 0, 3, 2, 7, 8]),
-        _ => (sizes(random, states), number, &[0, 1, 2, 3, 4, 5, 6, 7, 8]),
+        _ => (sizes(random, states), number, &[0, 1, 2, 3, 4, 4, 4, 4, 5, 6, 7, 8]),
     }
 }
 

@@ -131,20 +131,37 @@ impl Run {
         self.random.pick(&[0, 1, 2, 3, 4, absurd])
     }
 
-    /// A text with a byte changed, put in or taken out, or cut.
+    /// A text with a byte changed, put in or taken out, or cut, or with an item changed. One with a fault stays.
     fn damaged(&mut self, text: &[u8]) -> Vec<u8> {
         let mut text = text.to_vec();
+        if file::read(&text).is_err() {
+            return text;
+        }
         let at = self.random.below(text.len());
         let byte = self.random.pick(b"0123456789,x\n= \0\xff");
-        match self.random.below(9) {
+        match self.random.below(11) {
             0 => drop(text.remove(at)),
             1 => text.insert(at, byte),
             2 => text.truncate(at),
             3 => text.push(byte),
             // one rule's lines twice, where there is more than one rule
             4 => text = with_duplicates(&text),
+            // an entry of a rule's line
+            5 | 6 => {
+                let mut lines: Vec<Vec<u8>> = text.split(|&byte| byte == b'\n').map(<[u8]>::to_vec).collect();
+                let of_rules: Vec<usize> = (0..lines.len()).filter(|&line| lines[line].starts_with(b"if=") || lines[line].starts_with(b"then=")).collect();
+                let line = self.random.pick(&of_rules);
+                let mut entries: Vec<&[u8]> = lines[line].split_inclusive(|byte| b"=,".contains(byte)).collect();
+                let entry = self.random.from_to(1, entries.len() - 1);
+                let ending: &[u8] = if entry + 1 < entries.len() { b"," } else { b"" };
+                let number = self.random.from_to(0, entries.len());
+                let changed = [format!("{}{number}", self.random.pick(&["x", "x", ""])).as_bytes(), ending].concat();
+                entries[entry] = &changed;
+                lines[line] = entries.concat();
+                text = lines.join(&b'\n');
+            }
             // a number about a limit
-            5 => {
+            7 => {
                 let mut items: Vec<&[u8]> = text.split_inclusive(|byte| b"=,x\n".contains(byte)).collect();
                 let numbers: Vec<usize> = (0..items.len()).filter(|&item| items[item][0].is_ascii_digit()).collect();
                 let number = self.random.pick(&["0", "1", "2", "3", "15", "16", "17", "31", "32", "255", "256", "999", "1000", "00", "016"]);
