@@ -2,10 +2,10 @@
 -- Assumes nothing.
 use mathlib.Core.Path.{_≡_, refl, sym, ap, _∙_}
 use mathlib.Core.List.{List, [], _∷_, _++_, append-assoc}
-use Prim.Native.Nat.{ℕ, zero, suc, _+_, _-_, _*_, _/_, _%_, _≤_, _<_, min}
+use Prim.Native.Nat.{ℕ, zero, suc, _+_, _-_, _/_, _%_, _≤_, _<_}
 use native.Mathlib.Nat.{not-suc-le-zero, le-of-suc-le-suc}
 use native.Mathlib.Omega.{arith}
-use lib.ListN.{length, getD, take, drop, replicate, length-append, length-replicate, length-take, List·getD-append, List·getD-eq-default}
+use lib.ListN.{length, getD, take, drop, replicate, length-append, length-replicate, length-take, List·getD-append}
 use lib.Seq.{take-all, take-at, drop-at, getD-append-add, ext-getD}
 use Rattle.theory.specs.Lists.{padded}
 use Rattle.theory.proofs.ListLaws.{padded-length, zeros-at}
@@ -49,28 +49,28 @@ module _ (m : Macro) (conditionSize : length (m .condition) ≡ 16) (effectSize 
         append-assoc (m .condition) (m .effect ++ entryBytes (m .cost)) rest
         ∙ ap (λ l. m .condition ++ l) (append-assoc (m .effect) (entryBytes (m .cost)) rest)
 
-    conditionBack : take 16 (macroBytes m ++ rest) ≡ m .condition
-    conditionBack = ap (take 16) parts ∙ take-at (m .condition) (m .effect ++ (entryBytes (m .cost) ++ rest)) 16 conditionSize
+    condition-back : take 16 (macroBytes m ++ rest) ≡ m .condition
+    condition-back = ap (take 16) parts ∙ take-at (m .condition) (m .effect ++ (entryBytes (m .cost) ++ rest)) 16 conditionSize
 
-    effectBack : take 16 (drop 16 (macroBytes m ++ rest)) ≡ m .effect
-    effectBack =
+    effect-back : take 16 (drop 16 (macroBytes m ++ rest)) ≡ m .effect
+    effect-back =
         ap (λ l. take 16 (drop 16 l)) parts
         ∙ ap (take 16) (drop-at (m .condition) (m .effect ++ (entryBytes (m .cost) ++ rest)) 16 conditionSize)
         ∙ take-at (m .effect) (entryBytes (m .cost) ++ rest) 16 effectSize
 
-    byteBack : (i : ℕ) → 32 ≤ i → i < 34 → getD (macroBytes m ++ rest) i 0 ≡ getD (entryBytes (m .cost)) (i - 32) 0
-    byteBack i h k = List·getD-append (macroBytes m) rest 0 i (omega (arith, bytes-34)) ∙ byte-cost i h
+    byte-back : (i : ℕ) → 32 ≤ i → i < 34 → getD (macroBytes m ++ rest) i 0 ≡ getD (entryBytes (m .cost)) (i - 32) 0
+    byte-back i h k = List·getD-append (macroBytes m) rest 0 i (omega (arith, bytes-34)) ∙ byte-cost i h
 
-    costBack : entryAt (macroBytes m ++ rest) 16 ≡ m .cost
+    cost-back : entryAt (macroBytes m ++ rest) 16 ≡ m .cost
     unfolding entryAt
-    costBack =
-        let low : getD (macroBytes m ++ rest) 32 0 ≡ m .cost % 256 = byteBack 32 (omega arith) (omega arith) in
-        let high : getD (macroBytes m ++ rest) 33 0 ≡ m .cost / 256 = byteBack 33 (omega arith) (omega arith) in
+    cost-back =
+        let low : getD (macroBytes m ++ rest) 32 0 ≡ m .cost % 256 = byte-back 32 (omega arith) (omega arith) in
+        let high : getD (macroBytes m ++ rest) 33 0 ≡ m .cost / 256 = byte-back 33 (omega arith) (omega arith) in
         omega (arith, low, high)
 
     pub read-back : macroOf (macroBytes m ++ rest) ≡ m
     unfolding macroOf
-    read-back = λ i. record { condition = conditionBack i; effect = effectBack i; cost = costBack i }
+    read-back = λ i. record { condition = condition-back i; effect = effect-back i; cost = cost-back i }
 
 -- ── Buffers ──────────────────────────────────────────────────────────────────────────────────────
 

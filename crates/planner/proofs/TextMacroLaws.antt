@@ -4,7 +4,7 @@ use mathlib.Core.Path.{_≡_, refl, sym, ap, subst, _∙_}
 use mathlib.Core.Logic.{_≢_, ⊎-elim}
 use mathlib.Core.List.{List}
 use Prim.Native.Nat.{ℕ}
-use lib.ListN.{length, replicate}
+use lib.ListN.{length}
 use Rattle.theory.proofs.TestLaws.{equal?}
 use Rattle.model.specs.declared.RuleSet.{RuleSet}
 use Rattle.rules.specs.Reading.{reading}
@@ -12,7 +12,7 @@ use Rattle.macros.specs.Answers.{blankMacro, macroAnswer, Meaning}
 use Rattle.macros.specs.declared.Macro.{Macro}
 use Rattle.macros.specs.declared.MacroAnswer.{MacroAnswer}
 use Rattle.macros.proofs.MacroLaws.{answer-meaning}
-use Rattle.planner.specs.TextMacro.{macroOf, macroBuffer, textMacro, TextMacroMeaning}
+use Rattle.planner.specs.TextMacro.{macroBuffer, textMacro, TextMacroMeaning}
 use Rattle.planner.proofs.OfTextLaws.{of-read, of-refused}
 use Rattle.planner.proofs.MacroBytesLaws.{buffer-back, blank-buffer}
 use Rattle.planner.proofs.TextTableLaws.{not-7}

@@ -6,7 +6,6 @@ use Prim.Native.Nat.{ℕ}
 use lib.ListN.{length}
 use borrow.Author.Needs.{needs}
 use Rattle.model.proofs.BufferLaws.{filled-whole}
-use Rattle.rules.specs.Reading.{reading}
 use Rattle.rules.specs.declared.Reading.{Reading}
 use Rattle.tables.specs.Answers.{buildOutcome, builtBuffer}
 use Rattle.planner.specs.TextTables.{textBuildOutcome, textBuiltBuffer, TextBuildMeaning}
