@@ -1,4 +1,4 @@
-// Queries: what a search is asked and answers, the plan handed back and the tally. Types, definitions and laws; the code is in `search`.
+// Queries: what a search is asked and answers, the plan handed back and the tally. Types, definitions and laws; the code is in `search` and `answers`.
 
 // What a search gives beside the plan buffer.
 pub struct Answer {

@@ -1,7 +1,6 @@
 // The search (document 01: the walk): the cheapest plan of a query, or why there is none.
 mod lookup;
 mod query;
-pub mod tally;
 mod visits;
 
 use lookup::fill_lookup;
@@ -18,7 +17,6 @@ ghost use mathlib.Core.Path.{_≡_};
 ghost use mathlib.Core.List.{map, _++_};
 ghost use Prim.Native.Nat.{_≤_};
 ghost use lib.ListN.{length, take, drop};
-ghost use Rattle.queries.specs.PlanPart.{planPart};
 ghost use Rattle.queries.specs.Query.{asked};
 ghost use Rattle.queries.specs.Searched.{Searched, searched, NotRefused, SearchMeaning};
 ghost use Rattle.search.specs.Visits.{Explored};
@@ -202,14 +200,4 @@ pub fn search(
         length: best.length,
         steps: progress.steps,
     }
-}
-
-// The plan handed back (document 01: the second call): the front part of the caller's own plan buffer, from its start; an empty one where the length is above the buffer's.
-pub fn plan_part(plan: &[u8], length: usize) -> &[u8]
-    ensures { λ r. ⌜ (now r ≡ planPart (now (plan .entry)) length) × (r .ptr ≡ plan .entry .ptr) ⌝ }
-{
-    if length <= plan.len() {
-        return &plan[..length];
-    }
-    &plan[..0]
 }

@@ -279,7 +279,7 @@ fn print_answer(answer: Answer, plan: &[u8]) {
     print(b"; steps ");
     print_number(answer.steps as u64);
     print(b"; plan ");
-    print_moves(search::plan_part(plan, answer.length as usize));
+    print_moves(answers::plan_part(plan, answer.length as usize));
     let size = least(answer.length as usize, plan.len());
     if blank(&plan[size..]) {
         print(b"; rest 255");
@@ -332,7 +332,7 @@ fn counted_search(
     tally: Tally,
 ) -> Counted {
     let mut local = tally;
-    let answer = search::tally::search_with_tally(
+    let answer = answers::tally::search_with_tally(
         set,
         reach,
         table,
@@ -353,7 +353,7 @@ fn counted_search(
 // The update of a tally that is kept in a local.
 fn updated(tally: Tally, outcome: u8, steps: u32) -> Tally {
     let mut local = tally;
-    search::tally::update(&mut local, outcome, steps);
+    answers::tally::update(&mut local, outcome, steps);
     local
 }
 
@@ -495,7 +495,7 @@ fn print_updates(tally: Tally, text: &[u8]) -> Tally {
     let outcome = least(number_of(up_to(b' ', text)), 255) as u8;
     let steps = least(number_of(behind(b' ', text)), 4294967295) as u32;
     print(b"by value ");
-    print_tally(search::tally::tallied(tally, outcome, steps));
+    print_tally(answers::tally::tallied(tally, outcome, steps));
     let next = updated(tally, outcome, steps);
     print(b"; by reference ");
     print_tally(next);
@@ -507,7 +507,7 @@ fn print_part(text: &[u8], plan: &[u8]) {
     let size = number_of(up_to(b' ', text));
     let room = least(number_of(behind(b' ', text)), plan.len());
     print(b"part ");
-    print_moves(search::plan_part(&plan[0..room], size));
+    print_moves(answers::plan_part(&plan[0..room], size));
 }
 
 // The set of a text, with its outcome printed.

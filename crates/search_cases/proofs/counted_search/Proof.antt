@@ -53,10 +53,10 @@ use Rattle.queries.proofs.Answer as N
 use Rattle.queries.proofs.Answer.Laws as N′
 use Rattle.queries.proofs.Tally as T
 use Rattle.queries.proofs.Tally.Laws as T′
-use Rattle.search.proofs.tally.search_with_tally as g
-use Rattle.search.proofs.tally.search_with_tally.Symbol as g-def
-use Rattle.search.proofs.tally.search_with_tally.Symbol.{name as #search·tally·search-with-tally}
-use Rattle.search.proofs.tally.search_with_tally.Met as g-thm
+use Rattle.answers.proofs.tally.search_with_tally as g
+use Rattle.answers.proofs.tally.search_with_tally.Symbol as g-def
+use Rattle.answers.proofs.tally.search_with_tally.Symbol.{name as #answers·tally·search-with-tally}
+use Rattle.answers.proofs.tally.search_with_tally.Met as g-thm
 use Rattle.search_cases.specs.declared.Counted.{Counted}
 use Rattle.search_cases.proofs.Counted as K
 use Rattle.search_cases.proofs.Counted.Laws as K′
@@ -177,7 +177,7 @@ module _ {M : Type 1} (𝓤 : URA M) (H : Heap 𝓤) (A : Atoms 𝓤) (W : Given
       move ! (6 ∷ 2 ∷ []) $ join ! $ move ! (2 ∷ 0 ∷ []) $ join ! $ move ! (2 ∷ 0 ∷ []) $ join ! $ move ! (2 ∷ 0 ∷ []) $ join ! $ move ! (2 ∷ 0 ∷ []) $ join ! $
       join ! $ frame ! $ done !
 
-  module _ (C : Calls 𝓤 H) (Λ : Loops 𝓤 H) (fm : FmC 𝓤 H (W .laws) C) (known : Triple 𝓤 (C #search·tally·search-with-tally) (Callee 𝓤 H A at-mem run)) where
+  module _ (C : Calls 𝓤 H) (Λ : Loops 𝓤 H) (fm : FmC 𝓤 H (W .laws) C) (known : Triple 𝓤 (C #answers·tally·search-with-tally) (Callee 𝓤 H A at-mem run)) where
     walk : Is R.the-row set (set-val ∷ []) → reach < 2 ^ 64 → Room u8 (length (table .now)) → Room u8 (length (start .now)) → Room u8 (length (goal .now)) → moves < 2 ^ 64 → cost < 2 ^ 16 → limit < 2 ^ 32 → Room u8 (length (plan .now))
         → Is T.the-row tally (tally-val tally ∷ [])
         → ent 𝓤 (onEntry 𝓤 H A f.signature lfts shares x at)
@@ -224,7 +224,7 @@ module _ {M : Type 1} (𝓤 : URA M) (H : Heap 𝓤) (A : Atoms 𝓤) (W : Given
         keep ! (4 ∷ 3 ∷ 2 ∷ 1 ∷ 0 ∷ 6 ∷ []) $ by ! (exits r t zs (is-counted r t (is-answer r v is) (is-tally t u so)) l)))))))))))))))))))))))))))
 
 module _ {M : Type 1} (𝓤 : URA M) (H : Heap 𝓤) (A : Atoms 𝓤) (W : Given 𝓤 H A) (at-mem : Memory → SProp 𝓤) (run : Routine → Fun 𝓤) where
-  counted-search-walks : (C : Calls 𝓤 H) (Λ : Loops 𝓤 H) → FmC 𝓤 H (W .laws) C → Triple 𝓤 (C #search·tally·search-with-tally) (Callee 𝓤 H A at-mem run) → Walks 𝓤 H A f.ended stayed (WpFn 𝓤 H C Λ code.function) (f.clauses 𝓤 H A at-mem run)
+  counted-search-walks : (C : Calls 𝓤 H) (Λ : Loops 𝓤 H) → FmC 𝓤 H (W .laws) C → Triple 𝓤 (C #answers·tally·search-with-tally) (Callee 𝓤 H A at-mem run) → Walks 𝓤 H A f.ended stayed (WpFn 𝓤 H C Λ code.function) (f.clauses 𝓤 H A at-mem run)
   counted-search-walks C Λ fm known = walked 𝓤 H A f.ended stayed (f.clauses 𝓤 H A at-mem run) (WpFn 𝓤 H C Λ code.function)
       (λ κs. (LL.vals R.the-type R′.the-laws, (uint-vals w64, (slice-vals, (slice-vals, (slice-vals, (uint-vals w64, (uint-vals w16, (uint-vals w32, (slice-vals, (LL.vals T.the-type T′.the-laws, tt)))))))))))
       (λ κs. (
@@ -276,7 +276,7 @@ module _ {M : Type 1} (𝓤 : URA M) (H : Heap 𝓤) (A : Atoms 𝓤) (W : Given
   )
 
 counted-search-meets : {M : Type 1} (𝓤 : URA M) (H : Heap 𝓤) (A : Atoms 𝓤) (W : Given 𝓤 H A) (at-mem : Memory → SProp 𝓤) (run : Routine → Fun 𝓤) (𝓣 : Tables 𝓤 H)
-    → Triple 𝓤 (𝓣 .C #search·tally·search-with-tally) (Callee 𝓤 H A at-mem run)
+    → Triple 𝓤 (𝓣 .C #answers·tally·search-with-tally) (Callee 𝓤 H A at-mem run)
     → Meets 𝓤 H A f.signature (WpFn 𝓤 H (𝓣 .C) (𝓣 .Λ) code.function) (f.spec 𝓤 H A at-mem run)
 counted-search-meets 𝓤 H A W at-mem run 𝓣 known =
     walk-meets 𝓤 H A f.ended stayed W (goes 𝓤 H A W at-mem run) (f.clauses 𝓤 H A at-mem run) (WpFn 𝓤 H (𝓣 .C) (𝓣 .Λ) code.function) (WpFn-mono 𝓤 H (W .laws) 𝓣 code.function)
@@ -288,4 +288,4 @@ counted-search-spec 𝓤 H 𝓜 𝓖 𝓡 =
     entered 𝓤 H (tripleOf 𝓤 H (𝓖 .A) f.signature (f.spec 𝓤 H (𝓖 .A) (𝓜 .mem) (𝓡 .run)))
     (tables 𝓤 H 𝓜 𝓡 code.env .C) (tables 𝓤 H 𝓜 𝓡 code.env .Λ) #search-cases·counted-search code.function (code.unfolded 𝓤 H 𝓜 𝓡)
     (counted-search-meets 𝓤 H (𝓖 .A) (givenOf 𝓤 H 𝓜 𝓖) (𝓜 .mem) (𝓡 .run) (tablesOf 𝓤 H 𝓜 (tables 𝓤 H 𝓜 𝓡 code.env))
-    (cited 𝓤 H (Callee 𝓤 H (𝓖 .A) (𝓜 .mem) (𝓡 .run)) 𝓜 𝓡 code.env #search·tally·search-with-tally g-def.routine code.calls-search·tally·search-with-tally (g-thm.met 𝓤 H 𝓜 𝓖 𝓡)))
+    (cited 𝓤 H (Callee 𝓤 H (𝓖 .A) (𝓜 .mem) (𝓡 .run)) 𝓜 𝓡 code.env #answers·tally·search-with-tally g-def.routine code.calls-answers·tally·search-with-tally (g-thm.met 𝓤 H 𝓜 𝓖 𝓡)))

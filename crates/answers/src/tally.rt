@@ -1,8 +1,8 @@
 // The tally of a caller's queries: updated by value, and where the caller keeps it; and the query with a tally.
-use crate::search;
 use model::RuleSet;
 use queries::Answer;
 use queries::Tally;
+use search::search;
 ghost use mathlib.Core.Path.{_≡_};
 ghost use mathlib.Core.Bool.{not};
 ghost use lib.ListN.{length};

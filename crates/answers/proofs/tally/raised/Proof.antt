@@ -1,9 +1,9 @@
--- `search::tally::raised` meets its contract.
+-- `answers::tally::raised` meets its contract.
 -- Assumes nothing.
 use native.Mathlib.Omega.{arith}
 use borrow.Author.Needs.{needs}
-use Rattle.search.proofs.tally.raised.Statement.{statement}
-use Rattle.search.proofs.tally.raised.Tie as tie
+use Rattle.answers.proofs.tally.raised.Statement.{statement}
+use Rattle.answers.proofs.tally.raised.Tie as tie
 
 sub-if1 : tie.Need-sub-if1
 sub-if1 c = search needs

@@ -1,8 +1,8 @@
--- `search::tally::is_refusal` meets its contract.
+-- `answers::tally::is_refusal` meets its contract.
 -- Assumes nothing.
 use borrow.Author.Tests.{eq-eqb, ne-eqb}
-use Rattle.search.proofs.tally.is_refusal.Statement.{statement}
-use Rattle.search.proofs.tally.is_refusal.Tie as tie
+use Rattle.answers.proofs.tally.is_refusal.Statement.{statement}
+use Rattle.answers.proofs.tally.is_refusal.Tie as tie
 
 returns : tie.Need-returns
 returns c = simp (eq-eqb _ _ (c .if1 .taken))

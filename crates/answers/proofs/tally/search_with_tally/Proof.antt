@@ -1,4 +1,4 @@
--- `search::tally::search_with_tally` meets its contract: a walk of its MIR, by hand. The plan buffer goes to `search` and the tally to `update`, each at its own lifetime, share and ghost name: both are given up for good, and nothing has to come back.
+-- `answers::tally::search_with_tally` meets its contract: a walk of its MIR, by hand. The plan buffer goes to `search` and the tally to `update`, each at its own lifetime, share and ghost name: both are given up for good, and nothing has to come back.
 -- All that it knows of `search` and of `update` is that each meets its contract.
 -- Assumes nothing.
 use mathlib.Core.Path.{_≡_, refl, sym, ap, subst, _∙_}
@@ -51,18 +51,18 @@ use Rattle.queries.specs.declared.Tally.{Tally}
 use Rattle.queries.proofs.Answer as N
 use Rattle.queries.proofs.Answer.Laws as N′
 use Rattle.queries.proofs.Tally as T
 use Rattle.search.proofs.search as g
 use Rattle.search.proofs.search.Symbol as g-def
 use Rattle.search.proofs.search.Symbol.{name as #search·search}
 use Rattle.search.proofs.search.Met as g-thm
-use Rattle.search.proofs.tally.update as u
-use Rattle.search.proofs.tally.update.Symbol as u-def
-use Rattle.search.proofs.tally.update.Symbol.{name as #search·tally·update}
-use Rattle.search.proofs.tally.update.Met as u-thm
-use Rattle.search.proofs.tally.search_with_tally.Key.{name as #search·tally·search-with-tally}
-use Rattle.search.proofs.tally.search_with_tally as f
-use Rattle.search.proofs.tally.search_with_tally.Statement as stated
-use Rattle.search.proofs.tally.search_with_tally.Code as code
+use Rattle.answers.proofs.tally.update as u
+use Rattle.answers.proofs.tally.update.Symbol as u-def
+use Rattle.answers.proofs.tally.update.Symbol.{name as #answers·tally·update}
+use Rattle.answers.proofs.tally.update.Met as u-thm
+use Rattle.answers.proofs.tally.search_with_tally.Key.{name as #answers·tally·search-with-tally}
+use Rattle.answers.proofs.tally.search_with_tally as f
+use Rattle.answers.proofs.tally.search_with_tally.Statement as stated
+use Rattle.answers.proofs.tally.search_with_tally.Code as code
 
 -- of the parameters that are lent for reading, and of those passed by value, nothing is had at exit
 abbrev stayed : Stays (f.ended .signature .params) (f.ended .kept)
@@ -208,7 +208,7 @@ module _ {M : Type 1} (𝓤 : URA M) (H : Heap 𝓤) (A : Atoms 𝓤) (W : Given
       nothing ! $ move ! (2 ∷ 0 ∷ []) $ fjoin ! $ move ! (1 ∷ 0 ∷ []) $ fjoin ! $ nothing ! $ fjoin ! $ nothing ! $ fjoin ! $ nothing ! $ fjoin ! $ nothing ! $ fjoin ! $ nothing ! $ fjoin ! $ nothing ! $ fjoin ! $ nothing ! $ fjoin ! $ nothing ! $ fjoin ! $
       frame ! $ owned ! N.the-row (Is N.the-row) (LL.makes N.the-type N′.the-plain 𝓤 H A) r _ is $ done !
 
-  module _ (C : Calls 𝓤 H) (Λ : Loops 𝓤 H) (fm : FmC 𝓤 H (W .laws) C) (known-search : Triple 𝓤 (C #search·search) (Search 𝓤 H A at-mem run)) (known-update : Triple 𝓤 (C #search·tally·update) (Update 𝓤 H A at-mem run)) where
+  module _ (C : Calls 𝓤 H) (Λ : Loops 𝓤 H) (fm : FmC 𝓤 H (W .laws) C) (known-search : Triple 𝓤 (C #search·search) (Search 𝓤 H A at-mem run)) (known-update : Triple 𝓤 (C #answers·tally·update) (Update 𝓤 H A at-mem run)) where
     walk : Is R.the-row set (set-val ∷ []) → reach < 2 ^ 64 → Room u8 (length (table .now)) → Room u8 (length (start .now)) → Room u8 (length (goal .now)) → moves < 2 ^ 64 → cost < 2 ^ 16 → limit < 2 ^ 32 → Room u8 (length (plan .now))
         → ent 𝓤 (onEntry 𝓤 H A f.signature lfts shares x at)
         (WpFn 𝓤 H C Λ code.function passed Post)
@@ -250,7 +250,7 @@ module _ {M : Type 1} (𝓤 : URA M) (H : Heap 𝓤) (A : Atoms 𝓤) (W : Given
         keep ! (4 ∷ 0 ∷ 5 ∷ 2 ∷ []) $ by ! (exits r (last-plan zs) (ts .0) (is-val r v is) l e d))))))))))))))))))))))))))))
 
 module _ {M : Type 1} (𝓤 : URA M) (H : Heap 𝓤) (A : Atoms 𝓤) (W : Given 𝓤 H A) (at-mem : Memory → SProp 𝓤) (run : Routine → Fun 𝓤) where
-  search-with-tally-walks : (C : Calls 𝓤 H) (Λ : Loops 𝓤 H) → FmC 𝓤 H (W .laws) C → Triple 𝓤 (C #search·search) (Search 𝓤 H A at-mem run) → Triple 𝓤 (C #search·tally·update) (Update 𝓤 H A at-mem run)
+  search-with-tally-walks : (C : Calls 𝓤 H) (Λ : Loops 𝓤 H) → FmC 𝓤 H (W .laws) C → Triple 𝓤 (C #search·search) (Search 𝓤 H A at-mem run) → Triple 𝓤 (C #answers·tally·update) (Update 𝓤 H A at-mem run)
       → Walks 𝓤 H A f.ended stayed (WpFn 𝓤 H C Λ code.function) (f.clauses 𝓤 H A at-mem run)
   search-with-tally-walks C Λ fm known-search known-update = walked 𝓤 H A f.ended stayed (f.clauses 𝓤 H A at-mem run) (WpFn 𝓤 H C Λ code.function)
       (λ κs. (LL.vals R.the-type R′.the-laws, (uint-vals w64, (slice-vals, (slice-vals, (slice-vals, (uint-vals w64, (uint-vals w16, (uint-vals w32, (slice-vals, (ptr-vals, tt)))))))))))
@@ -303,7 +303,7 @@ module _ {M : Type 1} (𝓤 : URA M) (H : Heap 𝓤) (A : Atoms 𝓤) (W : Given
   )
 
 search-with-tally-meets : {M : Type 1} (𝓤 : URA M) (H : Heap 𝓤) (A : Atoms 𝓤) (W : Given 𝓤 H A) (at-mem : Memory → SProp 𝓤) (run : Routine → Fun 𝓤) (𝓣 : Tables 𝓤 H)
-    → Triple 𝓤 (𝓣 .C #search·search) (Search 𝓤 H A at-mem run) → Triple 𝓤 (𝓣 .C #search·tally·update) (Update 𝓤 H A at-mem run)
+    → Triple 𝓤 (𝓣 .C #search·search) (Search 𝓤 H A at-mem run) → Triple 𝓤 (𝓣 .C #answers·tally·update) (Update 𝓤 H A at-mem run)
     → Meets 𝓤 H A f.signature (WpFn 𝓤 H (𝓣 .C) (𝓣 .Λ) code.function) (f.spec 𝓤 H A at-mem run)
 search-with-tally-meets 𝓤 H A W at-mem run 𝓣 known-search known-update =
     walk-meets 𝓤 H A f.ended stayed W (goes 𝓤 H A W at-mem run) (f.clauses 𝓤 H A at-mem run) (WpFn 𝓤 H (𝓣 .C) (𝓣 .Λ) code.function) (WpFn-mono 𝓤 H (W .laws) 𝓣 code.function)
@@ -313,7 +313,7 @@ pub search-with-tally-spec : {M : Type 1} → stated.statement M
 unfolding code.routine tablesOf
 search-with-tally-spec 𝓤 H 𝓜 𝓖 𝓡 =
     entered 𝓤 H (tripleOf 𝓤 H (𝓖 .A) f.signature (f.spec 𝓤 H (𝓖 .A) (𝓜 .mem) (𝓡 .run)))
-    (tables 𝓤 H 𝓜 𝓡 code.env .C) (tables 𝓤 H 𝓜 𝓡 code.env .Λ) #search·tally·search-with-tally code.function (code.unfolded 𝓤 H 𝓜 𝓡)
+    (tables 𝓤 H 𝓜 𝓡 code.env .C) (tables 𝓤 H 𝓜 𝓡 code.env .Λ) #answers·tally·search-with-tally code.function (code.unfolded 𝓤 H 𝓜 𝓡)
     (search-with-tally-meets 𝓤 H (𝓖 .A) (givenOf 𝓤 H 𝓜 𝓖) (𝓜 .mem) (𝓡 .run) (tablesOf 𝓤 H 𝓜 (tables 𝓤 H 𝓜 𝓡 code.env))
     (cited 𝓤 H (Search 𝓤 H (𝓖 .A) (𝓜 .mem) (𝓡 .run)) 𝓜 𝓡 code.env #search·search g-def.routine code.calls-search·search (g-thm.met 𝓤 H 𝓜 𝓖 𝓡))
-    (cited 𝓤 H (Update 𝓤 H (𝓖 .A) (𝓜 .mem) (𝓡 .run)) 𝓜 𝓡 code.env #search·tally·update u-def.routine code.calls-search·tally·update (u-thm.met 𝓤 H 𝓜 𝓖 𝓡)))
+    (cited 𝓤 H (Update 𝓤 H (𝓖 .A) (𝓜 .mem) (𝓡 .run)) 𝓜 𝓡 code.env #answers·tally·update u-def.routine code.calls-answers·tally·update (u-thm.met 𝓤 H 𝓜 𝓖 𝓡)))

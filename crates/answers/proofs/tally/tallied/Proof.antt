@@ -1,4 +1,4 @@
--- `search::tally::tallied` meets its contract.
+-- `answers::tally::tallied` meets its contract.
 -- Assumes nothing.
 use mathlib.Core.Path.{_≡_, sym, subst}
 use Prim.Native.Nat.{ℕ}
@@ -6,8 +6,8 @@ use borrow.Author.Needs.{needs}
 use Rattle.queries.specs.Tallies.{talliedOf, TallyMeaning}
 use Rattle.queries.specs.declared.Tally.{Tally}
 use Rattle.queries.proofs.TallyLaws.{tally-meaning}
-use Rattle.search.proofs.tally.tallied.Statement.{statement}
-use Rattle.search.proofs.tally.tallied.Tie as tie
+use Rattle.answers.proofs.tally.tallied.Statement.{statement}
+use Rattle.answers.proofs.tally.tallied.Tie as tie
 
 -- the meaning follows from the equation
 told : (tally : Tally) (outcome steps : ℕ) (r : Tally) → r ≡ talliedOf tally outcome steps → (r ≡ talliedOf tally outcome steps) × TallyMeaning outcome steps tally r

@@ -1,4 +1,4 @@
--- `search::plan_part` meets its contract: the part is the first bytes, or none, of the caller's own buffer.
+-- `answers::plan_part` meets its contract: the part is the first bytes, or none, of the caller's own buffer.
 -- Assumes nothing.
 use mathlib.Core.Path.{refl, sym}
 use native.Mathlib.Omega.{arith}
@@ -7,8 +7,8 @@ use lib.Seq.{length-take-le}
 use borrow.Author.Needs.{needs}
 use borrow.Author.Tests.{le-leb, lt-leb}
 use Rattle.queries.specs.PlanPart.{planPart}
-use Rattle.search.proofs.plan_part.Statement.{statement}
-use Rattle.search.proofs.plan_part.Tie as tie
+use Rattle.answers.proofs.plan_part.Statement.{statement}
+use Rattle.answers.proofs.plan_part.Tie as tie
 
 slice-aggregate-result : tie.Need-slice-aggregate-result
 slice-aggregate-result c = let a = c .before .before .args in sym (length-take-le (a .length) (a .plan .now) (omega (arith, c .before .if1 .taken)))

@@ -1,8 +1,8 @@
--- `search::tally::raised_if` meets its contract.
+-- `answers::tally::raised_if` meets its contract.
 -- Assumes nothing.
 use borrow.Author.Needs.{needs}
-use Rattle.search.proofs.tally.raised_if.Statement.{statement}
-use Rattle.search.proofs.tally.raised_if.Tie as tie
+use Rattle.answers.proofs.tally.raised_if.Statement.{statement}
+use Rattle.answers.proofs.tally.raised_if.Tie as tie
 
 raised-requires : tie.Need-raised-requires
 raised-requires c κs = search needs

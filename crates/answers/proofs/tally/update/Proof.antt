@@ -1,4 +1,4 @@
--- `search::tally::update` meets its contract: a walk of its MIR, by hand. The borrow is opened, the struct is copied whole into a local and passed to `tallied`, what that returns is stored over the struct, and the borrow is closed at it.
+-- `answers::tally::update` meets its contract: a walk of its MIR, by hand. The borrow is opened, the struct is copied whole into a local and passed to `tallied`, what that returns is stored over the struct, and the borrow is closed at it.
 -- All that it knows of `tallied` is that it meets its contract.
 -- Assumes nothing.
 use mathlib.Core.Path.{_≡_, refl}
@@ -42,14 +42,14 @@ use Rattle.queries.specs.declared.Tally.{Tally}
 use Rattle.queries.specs.Tallies.{talliedOf, TallyMeaning}
 use Rattle.queries.proofs.Tally as T
 use Rattle.queries.proofs.Tally.Laws as T′
-use Rattle.search.proofs.tally.tallied as g
-use Rattle.search.proofs.tally.tallied.Symbol as g-def
-use Rattle.search.proofs.tally.tallied.Symbol.{name as #search·tally·tallied}
-use Rattle.search.proofs.tally.tallied.Met as g-thm
-use Rattle.search.proofs.tally.update.Key.{name as #search·tally·update}
-use Rattle.search.proofs.tally.update as f
-use Rattle.search.proofs.tally.update.Statement as stated
-use Rattle.search.proofs.tally.update.Code as code
+use Rattle.answers.proofs.tally.tallied as g
+use Rattle.answers.proofs.tally.tallied.Symbol as g-def
+use Rattle.answers.proofs.tally.tallied.Symbol.{name as #answers·tally·tallied}
+use Rattle.answers.proofs.tally.tallied.Met as g-thm
+use Rattle.answers.proofs.tally.update.Key.{name as #answers·tally·update}
+use Rattle.answers.proofs.tally.update as f
+use Rattle.answers.proofs.tally.update.Statement as stated
+use Rattle.answers.proofs.tally.update.Code as code
 
 -- what both contracts say of the tally after a query
 abbrev Updated : Tally → ℕ → ℕ → Tally → Type 0
@@ -99,7 +99,7 @@ module _ {M : Type 1} (𝓤 : URA M) (H : Heap 𝓤) (A : Atoms 𝓤) (W : Given
       qed W (‵ ftrue ∷ []) ∵ owned ! u32 (Is u32) (uint-makes 𝓤 H A W w32) s _ (refl, fs) $ fjoin ! $ owned ! u8 (Is u8) (uint-makes 𝓤 H A W w8) n _ (refl, fn) $ fjoin ! $
       owned ! T.the-row (Is T.the-row) (LL.makes T.the-type T′.the-plain 𝓤 H A) h _ was $ fjoin ! $ nothing ! $ join ! $ frame ! $ done !
 
-  module _ (C : Calls 𝓤 H) (Λ : Loops 𝓤 H) (fm : FmC 𝓤 H (W .laws) C) (known : Triple 𝓤 (C #search·tally·tallied) (Callee 𝓤 H A at-mem run)) where
+  module _ (C : Calls 𝓤 H) (Λ : Loops 𝓤 H) (fm : FmC 𝓤 H (W .laws) C) (known : Triple 𝓤 (C #answers·tally·tallied) (Callee 𝓤 H A at-mem run)) where
     walk : ent 𝓤 (onEntry 𝓤 H A f.signature (κ, tt) (q, tt) x at) (WpFn 𝓤 H C Λ code.function (vptr b o ∷ vint w8 n ∷ vint w32 s ∷ []) Post)
     walk =
         qed W ((‵ (flft κ q) ⊛ ‵ ftrue) ∷ ‵ (owns (MutRef (named 0) κ T.the-row ∷ u8 ∷ u32 ∷ []) x at) ∷ []) ∵ split ! $ move ! (2 ∷ []) $ fsplit ! $ fsplit3 ! $ drop ! $ move ! (0 ∷ 1 ∷ 3 ∷ []) $
@@ -127,7 +127,7 @@ module _ {M : Type 1} (𝓤 : URA M) (H : Heap 𝓤) (A : Atoms 𝓤) (W : Given
         keep ! (0 ∷ 1 ∷ 2 ∷ []) $ by ! (exits r e)))))))))))))
 
 module _ {M : Type 1} (𝓤 : URA M) (H : Heap 𝓤) (A : Atoms 𝓤) (W : Given 𝓤 H A) (at-mem : Memory → SProp 𝓤) (run : Routine → Fun 𝓤) where
-  update-walks : (C : Calls 𝓤 H) (Λ : Loops 𝓤 H) → FmC 𝓤 H (W .laws) C → Triple 𝓤 (C #search·tally·tallied) (Callee 𝓤 H A at-mem run) → Walks 𝓤 H A f.ended stayed (WpFn 𝓤 H C Λ code.function) (f.clauses 𝓤 H A at-mem run)
+  update-walks : (C : Calls 𝓤 H) (Λ : Loops 𝓤 H) → FmC 𝓤 H (W .laws) C → Triple 𝓤 (C #answers·tally·tallied) (Callee 𝓤 H A at-mem run) → Walks 𝓤 H A f.ended stayed (WpFn 𝓤 H C Λ code.function) (f.clauses 𝓤 H A at-mem run)
   update-walks C Λ fm known = walked 𝓤 H A f.ended stayed (f.clauses 𝓤 H A at-mem run) (WpFn 𝓤 H C Λ code.function) (λ κs. (ptr-vals, (uint-vals w8, (uint-vals w32, tt)))) (λ κs. (mut-tells (named 0) (κs .0) T.the-row, (uint-tells w8, (uint-tells w32, tt))))
       (λ κs qs bounds a _ are. via 𝓤 _ (fst∗ 𝓤 _ (emp 𝓤)) (walk 𝓤 H A W at-mem run (κs .0) (qs .0) (a .0 .ptr .0) (a .0 .ptr .1) (a .0 .name) (a .0 .now) (a .1 .0) (a .1 .1 .0) (are .1 .0 .1) (are .1 .1 .0 .1) C Λ fm known))
 
@@ -135,7 +135,7 @@ module _ {M : Type 1} (𝓤 : URA M) (H : Heap 𝓤) (A : Atoms 𝓤) (W : Given
   goes = (goes-ref 𝓤 H A W 1 0 tt (plain (λ _. T.the-row)), (goes-none 𝓤 H A W 1 (λ _. u8) yes (λ κs x f. refl), (goes-none 𝓤 H A W 1 (λ _. u32) yes (λ κs x f. refl), tt)))
 
 update-meets : {M : Type 1} (𝓤 : URA M) (H : Heap 𝓤) (A : Atoms 𝓤) (W : Given 𝓤 H A) (at-mem : Memory → SProp 𝓤) (run : Routine → Fun 𝓤) (𝓣 : Tables 𝓤 H)
-    → Triple 𝓤 (𝓣 .C #search·tally·tallied) (Callee 𝓤 H A at-mem run)
+    → Triple 𝓤 (𝓣 .C #answers·tally·tallied) (Callee 𝓤 H A at-mem run)
     → Meets 𝓤 H A f.signature (WpFn 𝓤 H (𝓣 .C) (𝓣 .Λ) code.function) (f.spec 𝓤 H A at-mem run)
 update-meets 𝓤 H A W at-mem run 𝓣 known = walk-meets 𝓤 H A f.ended stayed W (goes 𝓤 H A W at-mem run) (f.clauses 𝓤 H A at-mem run) (WpFn 𝓤 H (𝓣 .C) (𝓣 .Λ) code.function) (WpFn-mono 𝓤 H (W .laws) 𝓣 code.function)
     (update-walks 𝓤 H A W at-mem run (𝓣 .C) (𝓣 .Λ) (fmOf 𝓤 H (W .laws) 𝓣) known)
@@ -144,6 +144,6 @@ pub update-spec : {M : Type 1} → stated.statement M
 unfolding code.routine tablesOf
 update-spec 𝓤 H 𝓜 𝓖 𝓡 =
     entered 𝓤 H (tripleOf 𝓤 H (𝓖 .A) f.signature (f.spec 𝓤 H (𝓖 .A) (𝓜 .mem) (𝓡 .run)))
-    (tables 𝓤 H 𝓜 𝓡 code.env .C) (tables 𝓤 H 𝓜 𝓡 code.env .Λ) #search·tally·update code.function (code.unfolded 𝓤 H 𝓜 𝓡)
+    (tables 𝓤 H 𝓜 𝓡 code.env .C) (tables 𝓤 H 𝓜 𝓡 code.env .Λ) #answers·tally·update code.function (code.unfolded 𝓤 H 𝓜 𝓡)
     (update-meets 𝓤 H (𝓖 .A) (givenOf 𝓤 H 𝓜 𝓖) (𝓜 .mem) (𝓡 .run) (tablesOf 𝓤 H 𝓜 (tables 𝓤 H 𝓜 𝓡 code.env))
-    (cited 𝓤 H (Callee 𝓤 H (𝓖 .A) (𝓜 .mem) (𝓡 .run)) 𝓜 𝓡 code.env #search·tally·tallied g-def.routine code.calls-search·tally·tallied (g-thm.met 𝓤 H 𝓜 𝓖 𝓡)))
+    (cited 𝓤 H (Callee 𝓤 H (𝓖 .A) (𝓜 .mem) (𝓡 .run)) 𝓜 𝓡 code.env #answers·tally·tallied g-def.routine code.calls-answers·tally·tallied (g-thm.met 𝓤 H 𝓜 𝓖 𝓡)))
