@@ -21,7 +21,7 @@ cast-put-number c = search needs
 put-number-requires : tie.Need-put-number-requires
 put-number-requires c κs =
     let s = c .before .before .before .before in
-    (omega arith, omega (arith, ap length (text-one (s .args .count) (s .args .index) (c .before .before .if1 .left) (c .before .if2 .taken))))
+    (omega arith, omega (arith, ap length (text-one (s .args .count) (s .args .index) (c .before .before .if1 .left) (omega arith))))
 
 same-length : tie.Need-same-length
 same-length c = search needs
@@ -30,7 +30,7 @@ returns-2 : tie.Need-returns-2
 returns-2 c =
     let branch = c .before .before .before .before in
     let s = branch .before .before .before in
-    rw (text-one (s .args .count) (s .args .index) (branch .before .if1 .left) (branch .if2 .taken)) (c .before .before .put-number .ensures)
+    rw (text-one (s .args .count) (s .args .index) (branch .before .if1 .left) (omega arith)) (c .before .before .put-number .ensures)
 
 div-put-number : tie.Need-div-put-number
 div-put-number c = search needs
@@ -38,21 +38,21 @@ div-put-number c = search needs
 cast-put-number-2 : tie.Need-cast-put-number-2
 cast-put-number-2 c =
     let s = c .before .before .before .before in
-    omega (arith, first-rule (s .args .count) (s .pre .0) (s .args .index) (c .before .if2 .left) (s .pre .2) .1)
+    omega (arith, first-rule (s .args .count) (s .pre .0) (s .args .index) (omega arith) (s .pre .2) .1)
 
 put-number-requires-2 : tie.Need-put-number-requires-2
 put-number-requires-2 c κs =
     let s = c .before .before .before .before in
     let m = s .args .count in (
-      omega (arith, first-rule m (s .pre .0) (s .args .index) (c .before .if2 .left) (s .pre .2) .1),
-      omega (arith, simp length-append at (ap length (text-two m (s .pre .0) (s .args .index) (c .before .if2 .left) (s .pre .2)))),
+      omega (arith, first-rule m (s .pre .0) (s .args .index) (omega arith) (s .pre .2) .1),
+      omega (arith, simp length-append at (ap length (text-two m (s .pre .0) (s .args .index) (omega arith) (s .pre .2)))),
     )
 
 put-requires : tie.Need-put-requires
 put-requires c κs =
     let branch = c .before .before .before .before .before in
     let s = branch .before .before .before in
-    omega (arith, simp length-append at (ap length (text-two (s .args .count) (s .pre .0) (s .args .index) (branch .if2 .left) (s .pre .2))))
+    omega (arith, simp length-append at (ap length (text-two (s .args .count) (s .pre .0) (s .args .index) (omega arith) (s .pre .2))))
 
 rem-put-number : tie.Need-rem-put-number
 rem-put-number c = search needs
@@ -72,7 +72,7 @@ put-number-requires-3 c κs =
     let branch = c .before .before .before .before .before .before .before .before .before in
     let s = branch .before .before .before in (
       omega (arith, mod-lt (s .args .index - 1) {m = s .args .count} (s .pre .0)),
-      omega (arith, simp length-append at (ap length (text-two (s .args .count) (s .pre .0) (s .args .index) (branch .if2 .left) (s .pre .2)))),
+      omega (arith, simp length-append at (ap length (text-two (s .args .count) (s .pre .0) (s .args .index) (omega arith) (s .pre .2)))),
     )
 
 same-length-2 : tie.Need-same-length-2
@@ -85,7 +85,7 @@ returns-3 c =
     let first = comma .before .before .before .before in
     let branch = first .before .before in
     let s = branch .before .before .before in
-    rw (text-two (s .args .count) (s .pre .0) (s .args .index) (branch .if2 .left) (s .pre .2))
+    rw (text-two (s .args .count) (s .pre .0) (s .args .index) (omega arith) (s .pre .2))
     (laid-append (first .put-number2 .ensures) (laid-append (comma .put .ensures) (second .put-number3 .ensures)))
 
 pub put-sequence-spec : {M : Type 1} → statement M
