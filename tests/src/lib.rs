@@ -6,9 +6,11 @@
 
 pub mod calls;
 pub mod compare;
+pub mod damage;
 pub mod draw;
 pub mod library;
 pub mod oracle;
 pub mod random;
 pub mod script;
+pub mod seen;
 pub mod stack;

@@ -3,14 +3,16 @@
 
 use planner_tests::calls::{Answer, Call, Query};
 use planner_tests::compare::{compare, compare_in, Tally};
+use planner_tests::damage;
 use planner_tests::draw;
 use planner_tests::library;
 use planner_tests::oracle::model::{Entry, Rule, Set};
-use planner_tests::oracle::search::{all_within, meets, plan_by_states, steps_up_to, unpruned, Ran};
+use planner_tests::oracle::search::{all_within, plan_by_states, steps_up_to, unpruned};
 use planner_tests::oracle::sequences::count;
-use planner_tests::oracle::table::{built, bytes, KEPT};
+use planner_tests::oracle::table::{built, bytes};
 use planner_tests::oracle::{file, writer, Judged};
 use planner_tests::random::{seed, Random};
+use planner_tests::seen::Seen;
 use planner_tests::stack::{within, TEST_STACK};
 use std::io::Write;
 
@@ -21,38 +23,6 @@ const LISTED: usize = 2_500;
 
 /// Numbers for a reach or a move bound that are too large, some of them not in fewer bits.
 const ABSURD: [usize; 8] = [33, 34, 255, 257, 65538, (1 << 32) + 2, (1 << 63) + 1, usize::MAX];
-
-/// What happened in a run, beside the outcomes. Each has to happen.
-#[derive(Default, Debug)]
-struct Seen {
-    /// tables with a mark, with a mark by another than the empty sequence, and accepted ones that are not the built one
-    tables_with_marks: u64,
-    marks_by_rules: u64,
-    tables_of_others: u64,
-    /// sets in which a sequence is redundant only with a later one, and in which it does the same as an earlier, dearer one
-    kept_for_later: u64,
-    kept_for_cost: u64,
-    /// queries not refused: in which marks drop sequences, or a cheapest plan; with a plan of two moves or more, or by way of a costless rule
-    queries_pruned: u64,
-    plans_pruned: u64,
-    plans_long: u64,
-    plans_costless: u64,
-    /// with two plans of least cost; with a dearer plan of fewer moves; with a plan that depth-first order meets before the one shown
-    ties: u64,
-    dearer_shorter: u64,
-    met_before: u64,
-    /// with a goal that leaves a value open, and goals that are met on the way
-    open_goals: u64,
-    beyond_goals: u64,
-    /// with more sequences than are listed; sets with more states than are gone through, and with twelve positions or more
-    deep: u64,
-    wide: u64,
-    many_positions: u64,
-    /// searches refused with two causes or more
-    several_causes: u64,
-    /// macros run in every state
-    macros_run: u64,
-}
 
 struct Run {
     random: Random,
@@ -86,19 +56,9 @@ fn run_all() {
     run.seen.require_all(10);
 }
 
-impl Seen {
-    fn require_all(&self, least: u64) {
-        // each count by its name, as printed
-        for field in format!("{self:?}").trim_start_matches("Seen { ").trim_end_matches(" }").split(", ") {
-            let (name, number) = field.split_once(": ").expect("a name and a number");
-            assert!(number.parse::<u64>().expect("a number") >= least, "{name} {number} times, fewer than {least}");
-        }
-    }
-}
-
 impl Run {
     fn one_set(&mut self) {
-        let (states, rules) = self.random.pick(&[(200, 4), (200, 4), (200, 7), (60, 14), (30, 31), (usize::MAX, 8), (usize::MAX, 31)]);
+        let (states, rules) = self.random.pick(&[(200, 4), (200, 4), (200, 7), (60, 14), (30, 31), (usize::MAX, 6), (usize::MAX, 8), (usize::MAX, 31)]);
         let set = draw::rule_set(&mut self.random, states, rules);
         let text = writer::write(&set);
         let read = file::read(&text);
@@ -115,7 +75,8 @@ impl Run {
         }
         let reach = self.random.pick(&reaches);
         let entries = built(judged.redundancy(reach));
-        self.note_tables(&drawn, &mut judged, reach, &entries);
+        let closely = self.random.chance(30);
+        self.seen.table(&set, judged.redundancy(reach), reach, &entries, closely);
         for _ in 0..10 {
             let table = self.table(&mut judged, reach, &entries);
             self.check_table(&drawn, &mut judged, reach, table);
@@ -131,55 +92,6 @@ impl Run {
         self.random.pick(&[0, 1, 2, 3, 4, absurd])
     }
 
-    /// A text with a byte changed, put in or taken out, or cut, or with an item changed. One with a fault stays.
-    fn damaged(&mut self, text: &[u8]) -> Vec<u8> {
-        let mut text = text.to_vec();
-        if file::read(&text).is_err() {
-            return text;
-        }
-        let at = self.random.below(text.len());
-        let byte = self.random.pick(b"0123456789,x\n= \0\xff");
-        match self.random.below(11) {
-            0 => drop(text.remove(at)),
-            1 => text.insert(at, byte),
-            2 => text.truncate(at),
-            3 => text.push(byte),
-            // one rule's lines twice, where there is more than one rule
-            4 => text = with_duplicates(&text),
-            // an entry of a rule's line
-            5 | 6 => {
-                let mut lines: Vec<Vec<u8>> = text.split(|&byte| byte == b'\n').map(<[u8]>::to_vec).collect();
-                let of_rules: Vec<usize> = (0..lines.len()).filter(|&line| lines[line].starts_with(b"if=") || lines[line].starts_with(b"then=")).collect();
-                let line = self.random.pick(&of_rules);
-                let mut entries: Vec<&[u8]> = lines[line].split_inclusive(|byte| b"=,".contains(byte)).collect();
-                let entry = self.random.from_to(1, entries.len() - 1);
-                let ending: &[u8] = if entry + 1 < entries.len() { b"," } else { b"" };
-                let number = self.random.from_to(0, entries.len());
-                let changed = [format!("{}{number}", self.random.pick(&["x", "x", ""])).as_bytes(), ending].concat();
-                entries[entry] = &changed;
-                lines[line] = entries.concat();
-                text = lines.join(&b'\n');
-            }
-            // a number about a limit
-            7 => {
-                let mut items: Vec<&[u8]> = text.split_inclusive(|byte| b"=,x\n".contains(byte)).collect();
-                let numbers: Vec<usize> = (0..items.len()).filter(|&item| items[item][0].is_ascii_digit()).collect();
-                let number = self.random.pick(&["0", "1", "2", "3", "15", "16", "17", "31", "32", "255", "256", "999", "1000", "00", "016"]);
-                let item = self.random.pick(&numbers);
-                let ending = &items[item][items[item].len() - 1..];
-                let changed = [number.as_bytes(), ending].concat();
-                items[item] = &changed;
-                text = items.concat();
-            }
-            // a digit or a variable changed
-            _ => {
-                let digits: Vec<usize> = (0..text.len()).filter(|&at| text[at].is_ascii_digit()).collect();
-                text[self.random.pick(&digits)] = self.random.pick(b"0123456789");
-            }
-        }
-        text
-    }
-
     fn files(&mut self, drawn: &Drawn, judged: &mut Judged) {
         let text = drawn.text.to_vec();
         compare_in(&Call::Read { text: text.clone() }, judged, &mut self.tally);
@@ -191,7 +103,7 @@ impl Run {
             compare_in(&Call::TableSize { rules: text.clone(), reach }, judged, &mut self.tally);
         }
         for _ in 0..6 {
-            let text = self.damaged(drawn.text);
+            let text = damage::damaged(&mut self.random, drawn.text);
             compare(&Call::Read { text: text.clone() }, &mut self.tally);
             let length = self.random.pick(&[0, 1, 34, 400, text.len()]);
             let (rules, reach) = (text.clone(), self.random.from_to(0, 2));
@@ -238,23 +150,6 @@ impl Run {
         compare_in(&Call::BuildTable { rules, table_length, reach }, judged, &mut self.tally);
     }
 
-    fn note_tables(&mut self, drawn: &Drawn, judged: &mut Judged, reach: usize, entries: &[u16]) {
-        let seen = &mut self.seen;
-        seen.tables_with_marks += u64::from(entries.iter().any(|&entry| entry != KEPT));
-        seen.marks_by_rules += u64::from(entries.iter().any(|&entry| entry != KEPT && entry != 0));
-        if !self.random.chance(30) {
-            return;
-        }
-        let redundancy = judged.redundancy(reach);
-        let kept: Vec<usize> = (1..entries.len().min(100)).filter(|&b| entries[b] == KEPT).collect();
-        seen.kept_for_later += u64::from(kept.iter().any(|&b| (b + 1..entries.len()).any(|a| redundancy.redundant(b, a))));
-        let free = Set { rules: drawn.set.rules.iter().map(|rule| Rule { cost: 0, ..rule.clone() }).collect(), ..drawn.set.clone() };
-        let of_free = Ok(free);
-        let mut without_costs = Judged::new(&of_free);
-        let redundancy = without_costs.redundancy(reach);
-        seen.kept_for_cost += u64::from(kept.iter().any(|&b| (0..b).any(|a| redundancy.redundant(b, a))));
-    }
-
     /// The built table; some of its marks, other witnesses, none, both; or one that is most often not accepted.
     fn table(&mut self, judged: &mut Judged, reach: usize, entries: &[u16]) -> Vec<u16> {
         let redundancy = judged.redundancy(reach);
@@ -296,7 +191,7 @@ impl Run {
         let sound = Call::Search { rules: drawn.text.to_vec(), table: bytes(entries), reach, query, plan_length };
         if !self.random.chance(25) {
             let answer = compare_in(&sound, judged, &mut self.tally);
-            self.note_search(drawn, reach, entries, &sound, &answer);
+            self.note(drawn, reach, entries, &sound, &answer);
             return;
         }
         let causes = self.random.pick(&[1, 1, 2, 3, 6]);
@@ -306,6 +201,15 @@ impl Run {
         }
         self.seen.several_causes += u64::from(causes > 1);
         compare(&call, &mut self.tally);
+    }
+
+    fn note(&mut self, drawn: &Drawn, reach: usize, entries: &[u16], call: &Call, answer: &Answer) {
+        if let (Call::Search { query, .. }, 0 | 15) = (call, answer.outcome()) {
+            match all_within(drawn.set, query, LISTED) {
+                Some(all) => self.seen.search(drawn.set, query, &all, answer, |sequence| unpruned(drawn.set.rules.len(), reach, entries, sequence)),
+                None => self.seen.deep += 1,
+            }
+        }
     }
 
     /// A query with bounds about what matters: the plan's cost, and the number of steps.
@@ -353,7 +257,7 @@ impl Run {
             14 => query.step_limit = 0,
             _ => {
                 if self.random.chance(40) {
-                    rules = self.damaged(&rules);
+                    rules = damage::damaged(&mut self.random, &rules);
                 } else if table.len() > 2 {
                     table[2] ^= 1;
                 }
@@ -363,44 +267,6 @@ impl Run {
         query.step_limit = query.step_limit.min(LISTED as u32);
         Call::Search { rules, table, reach, query, plan_length }
     }
-
-    fn note_search(&mut self, drawn: &Drawn, reach: usize, entries: &[u16], call: &Call, answer: &Answer) {
-        let Call::Search { query, .. } = call else {
-            return;
-        };
-        if ![0, 15].contains(&answer.outcome()) {
-            return;
-        }
-        let seen = &mut self.seen;
-        let Some(all) = all_within(drawn.set, query, LISTED) else {
-            seen.deep += 1;
-            return;
-        };
-        seen.queries_pruned += u64::from((answer.steps() as usize) < all.len());
-        let plans: Vec<&Ran> = all.iter().filter(|ran| meets(&query.goal, &ran.state)).collect();
-        if answer.outcome() != 0 {
-            return;
-        }
-        let cheapest: Vec<&&Ran> = plans.iter().filter(|ran| u64::from(ran.cost) == answer.cost()).collect();
-        let shown = &answer.buffer[..answer.length()];
-        seen.plans_pruned += u64::from(cheapest.iter().any(|ran| !unpruned(drawn.set.rules.len(), reach, entries, &ran.sequence)));
-        seen.plans_long += u64::from(shown.len() > 1);
-        seen.plans_costless += u64::from(shown.iter().any(|&number| drawn.set.rule(number).cost == 0));
-        seen.ties += u64::from(cheapest.len() > 1 && !shown.is_empty());
-        seen.dearer_shorter += u64::from(plans.iter().any(|ran| ran.sequence.len() < shown.len()));
-        seen.met_before += u64::from(plans.iter().any(|ran| ran.sequence[..] < *shown && unpruned(drawn.set.rules.len(), reach, entries, &ran.sequence)));
-        seen.open_goals += u64::from(query.goal.contains(&255) && !shown.is_empty());
-        seen.beyond_goals += u64::from(plans.len() > 1);
-    }
-}
-
-/// The file with the lines of its first rule in the place of its second rule's.
-fn with_duplicates(text: &[u8]) -> Vec<u8> {
-    let mut lines: Vec<&[u8]> = text.split(|&byte| byte == b'\n').collect();
-    if lines.len() > 9 {
-        (lines[7], lines[8]) = (lines[4], lines[5]);
-    }
-    lines.join(&b'\n')
 }
 
 /// The library's macro, run in every state, against the rules in turn.

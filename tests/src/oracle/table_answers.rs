@@ -1,0 +1,44 @@
+//! What the calls on tables answer.
+
+use super::model::Set;
+use super::sequences;
+use super::table::{accepted, built, bytes, entries};
+use super::{bare, Judged};
+use crate::calls::Answer;
+
+/// "5 reach not 1 to 3"; "6 table length not 2 × S".
+pub fn bad_table(set: &Set, length: usize, reach: usize) -> Option<u8> {
+    if !(1..=3).contains(&reach) {
+        Some(5)
+    } else if length != 2 * sequences::count(set.rules.len(), reach) {
+        Some(6)
+    } else {
+        None
+    }
+}
+
+/// The header: outcomes 1 to 4, 5, 0, and "The table has exactly 2 × S bytes".
+pub fn table_size(set: &Set, reach: usize) -> Answer {
+    if !(1..=3).contains(&reach) {
+        return bare(5, vec![]);
+    }
+    let bytes = 2 * sequences::count(set.rules.len(), reach) as u64;
+    Answer { number: bytes << 8, buffer: vec![] }
+}
+
+/// "Builder: 7, 5, 6." "A refused build zeroes the table."
+pub fn build(judged: &mut Judged, set: &Set, length: usize, reach: usize) -> Answer {
+    match bad_table(set, length, reach) {
+        Some(outcome) => bare(outcome, vec![0; length]),
+        None => bare(0, bytes(&built(judged.redundancy(reach)))),
+    }
+}
+
+/// "Judge: 7, 5, 6, 14."
+pub fn check(judged: &mut Judged, set: &Set, table: &[u8], reach: usize) -> Answer {
+    match bad_table(set, table.len(), reach) {
+        Some(outcome) => bare(outcome, vec![]),
+        None if accepted(judged.redundancy(reach), &entries(table)) => bare(0, vec![]),
+        None => bare(14, vec![]),
+    }
+}

@@ -1,0 +1,83 @@
+//! What happens in a random run, beside the outcomes: a run that tests too little is seen.
+
+use crate::calls::{Answer, Query};
+use crate::oracle::model::{Rule, Set};
+use crate::oracle::redundancy::Redundancy;
+use crate::oracle::search::{meets, Ran};
+use crate::oracle::table::KEPT;
+
+/// What happened in a run, beside the outcomes. Each has to happen.
+#[derive(Default, Debug)]
+pub struct Seen {
+    /// tables with a mark, with a mark by another than the empty sequence, and accepted ones that are not the built one
+    pub tables_with_marks: u64,
+    pub marks_by_rules: u64,
+    pub tables_of_others: u64,
+    /// sets in which a sequence is redundant only with a later one, and in which it does the same as an earlier, dearer one
+    pub kept_for_later: u64,
+    pub kept_for_cost: u64,
+    /// queries not refused: in which marks prune sequences, or a cheapest plan; with a plan of two moves or more, or by way of a costless rule
+    pub queries_pruned: u64,
+    pub plans_pruned: u64,
+    pub plans_long: u64,
+    pub plans_costless: u64,
+    /// with two plans of least cost; with a dearer plan of fewer moves; with a plan that depth-first order meets before the one shown
+    pub ties: u64,
+    pub dearer_shorter: u64,
+    pub met_before: u64,
+    /// with a goal that leaves a value open, and goals that are met on the way
+    pub open_goals: u64,
+    pub beyond_goals: u64,
+    /// with more sequences than are listed; sets with more states than are gone through, and with twelve positions or more
+    pub deep: u64,
+    pub wide: u64,
+    pub many_positions: u64,
+    /// searches refused with two causes or more
+    pub several_causes: u64,
+    /// macros run in every state
+    pub macros_run: u64,
+}
+
+impl Seen {
+    /// Panics unless each happened so often at least.
+    pub fn require_all(&self, least: u64) {
+        // each count by its name, as printed
+        for field in format!("{self:?}").trim_start_matches("Seen { ").trim_end_matches(" }").split(", ") {
+            let (name, number) = field.split_once(": ").expect("a name and a number");
+            assert!(number.parse::<u64>().expect("a number") >= least, "{name} {number} times, fewer than {least}");
+        }
+    }
+
+    /// Notes a built table; what is kept and why only if it is to be looked at closely, as that takes time.
+    pub fn table(&mut self, set: &Set, redundancy: &Redundancy, reach: usize, entries: &[u16], closely: bool) {
+        self.tables_with_marks += u64::from(entries.iter().any(|&entry| entry != KEPT));
+        self.marks_by_rules += u64::from(entries.iter().any(|&entry| entry != KEPT && entry != 0));
+        if !closely {
+            return;
+        }
+        let kept: Vec<usize> = (1..entries.len().min(100)).filter(|&b| entries[b] == KEPT).collect();
+        self.kept_for_later += u64::from(kept.iter().any(|&b| (b + 1..entries.len()).any(|a| redundancy.redundant(b, a))));
+        let free = Set { rules: set.rules.iter().map(|rule| Rule { cost: 0, ..rule.clone() }).collect(), ..set.clone() };
+        let without_costs = Redundancy::new(&free, reach);
+        self.kept_for_cost += u64::from(kept.iter().any(|&b| (0..b).any(|a| without_costs.redundant(b, a))));
+    }
+
+    /// Notes a search that gave a plan or none, with all sequences within its bounds.
+    pub fn search(&mut self, set: &Set, query: &Query, all: &[Ran], answer: &Answer, unpruned: impl Fn(&[u8]) -> bool) {
+        self.queries_pruned += u64::from((answer.steps() as usize) < all.len());
+        if answer.outcome() != 0 {
+            return;
+        }
+        let plans: Vec<&Ran> = all.iter().filter(|ran| meets(&query.goal, &ran.state)).collect();
+        let cheapest: Vec<&&Ran> = plans.iter().filter(|ran| u64::from(ran.cost) == answer.cost()).collect();
+        let shown = &answer.buffer[..answer.length()];
+        self.plans_pruned += u64::from(cheapest.iter().any(|ran| !unpruned(&ran.sequence)));
+        self.plans_long += u64::from(shown.len() > 1);
+        self.plans_costless += u64::from(shown.iter().any(|&number| set.rule(number).cost == 0));
+        self.ties += u64::from(cheapest.len() > 1 && !shown.is_empty());
+        self.dearer_shorter += u64::from(plans.iter().any(|ran| ran.sequence.len() < shown.len()));
+        self.met_before += u64::from(plans.iter().any(|ran| ran.sequence[..] < *shown && unpruned(&ran.sequence)));
+        self.open_goals += u64::from(query.goal.contains(&255) && !shown.is_empty());
+        self.beyond_goals += u64::from(plans.len() > 1);
+    }
+}
