@@ -2,6 +2,7 @@
 
 use planner_tests::calls::{Call, Query};
 use planner_tests::compare::{compare, Tally};
+use planner_tests::stack::{within, TEST_STACK};
 use std::io::Write;
 
 /// The bytes that are put in.
@@ -50,6 +51,10 @@ fn call(text: Vec<u8>, turn: usize) -> Call {
 
 #[test]
 fn texts_damaged_at_every_byte() {
+    within(TEST_STACK, run_all);
+}
+
+fn run_all() {
     let mut tally = Tally::default();
     let mut turn = 0;
     for text in TEXTS {

@@ -16,7 +16,7 @@ use planner_tests::seen::Seen;
 use planner_tests::stack::{within, TEST_STACK};
 use std::io::Write;
 
-const SETS: usize = 1000;
+const SETS: usize = 2000;
 
 /// The most sequences that a query may have to list, by the oracle or by the library.
 const LISTED: usize = 2_500;

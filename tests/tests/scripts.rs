@@ -4,9 +4,14 @@ use planner_tests::calls::Call;
 use planner_tests::compare::{compare, compare_in, Tally};
 use planner_tests::oracle::{file, Judged};
 use planner_tests::script;
+use planner_tests::stack::{within, TEST_STACK};
 
 /// Compares them all; calls on one rule file share what was found of it.
-fn all(calls: &[Call]) -> u64 {
+fn all(script: &str) -> u64 {
+    within(TEST_STACK, || compared(&script::calls(script)))
+}
+
+fn compared(calls: &[Call]) -> u64 {
     let mut tally = Tally::default();
     for same in calls.chunk_by(|one, next| one.text() == next.text()) {
         let set = file::read(same[0].text());
@@ -29,18 +34,18 @@ fn rule_files() {
 
 #[test]
 fn macros() {
-    let compared = all(&script::calls(include_str!("../../crates/macro_cases/stdin")));
+    let compared = all(include_str!("../../crates/macro_cases/stdin"));
     assert!(compared > 600, "only {compared} calls");
 }
 
 #[test]
 fn tables() {
-    let compared = all(&script::calls(include_str!("../../crates/table_cases/stdin")));
+    let compared = all(include_str!("../../crates/table_cases/stdin"));
     assert!(compared > 600, "only {compared} calls");
 }
 
 #[test]
 fn queries() {
-    let compared = all(&script::calls(include_str!("../../crates/search_cases/stdin")));
+    let compared = all(include_str!("../../crates/search_cases/stdin"));
     assert!(compared > 700, "only {compared} calls");
 }
