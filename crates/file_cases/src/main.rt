@@ -114,13 +114,13 @@ fn zero_set(set: RuleSet) -> bool {
 
 // The outcome of a text, as a digit.
 fn print_outcome(text: &[u8]) {
-    let reading = rules::read(text);
+    let reading = reader::read(text);
     print_byte(reading.outcome);
 }
 
 // The outcome of a text, and what a refusal leaves of the set.
 fn print_reading(text: &[u8]) {
-    let reading = rules::read(text);
+    let reading = reader::read(text);
     print_byte(reading.outcome);
     if reading.outcome == 0 {
         return;
@@ -169,7 +169,7 @@ fn print_written(set: RuleSet, text: &[u8], size: usize) {
         return;
     }
     let buffer = &mut space[0..size];
-    let written = rules::write(set, buffer);
+    let written = writer::write(set, buffer);
     print_byte(written.outcome);
     print(b",");
     print_number(written.length as u64);
@@ -179,7 +179,7 @@ fn print_written(set: RuleSet, text: &[u8], size: usize) {
 
 // Writes the set of a text into five buffers. Nothing for the empty text.
 fn print_rewritten(text: &[u8]) {
-    let reading = rules::read(text);
+    let reading = reader::read(text);
     let set = reading.set;
     let size = text.len();
     if size == 0 {
@@ -218,7 +218,7 @@ fn print_rule(rule: Rule) {
 
 // The set of a text.
 fn print_set(text: &[u8]) {
-    let reading = rules::read(text);
+    let reading = reader::read(text);
     let set = reading.set;
     let sizes = set.sizes;
     print_byte(set.positions);
@@ -293,13 +293,13 @@ fn spoiled(set: RuleSet, way: u8) -> RuleSet {
 // The outcome of writing a set, as a digit; the buffer has room for the short texts of these cases.
 fn print_write_outcome(set: RuleSet) {
     let mut buffer = [0u8; 256];
-    let written = rules::write(set, &mut buffer);
+    let written = writer::write(set, &mut buffer);
     print_byte(written.outcome);
 }
 
 // The outcomes of writing the set of a text, spoiled in each way and at last as it is.
 fn print_spoiled(text: &[u8]) {
-    let reading = rules::read(text);
+    let reading = reader::read(text);
     for way in 0..13u8 {
         print_write_outcome(spoiled(reading.set, way));
     }

@@ -112,7 +112,7 @@ fn print(label: &[u8], number: u64) {
 fn main() {
     let mut text = io::large_buffer();
     let n = io::read_full(STDIN_FILENO, &mut text);
-    let reading = rules::read(&text[..n]);
+    let reading = reader::read(&text[..n]);
     print(b"outcome=", reading.outcome as u64);
     if reading.outcome != 0 {
         return;

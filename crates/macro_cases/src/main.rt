@@ -247,7 +247,7 @@ fn print_compared(set: RuleSet, text: &[u8]) {
 fn read_set(text: &[u8]) -> RuleSet {
     let mut file = io::large_buffer();
     let size = decode(text, &mut file);
-    let reading = rules::read(&file[0..size]);
+    let reading = reader::read(&file[0..size]);
     print_byte(reading.outcome);
     reading.set
 }
@@ -311,7 +311,7 @@ fn run(set: RuleSet, line: &[u8]) -> RuleSet {
 
 // The cases of all lines; the set of the first is the empty one.
 fn run_lines(input: &[u8]) {
-    let empty = rules::read(b"");
+    let empty = reader::read(b"");
     let mut set = empty.set;
     let mut from: usize = 0;
     while from < input.len() {

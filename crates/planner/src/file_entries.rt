@@ -13,7 +13,7 @@ ghost use Rattle.planner.specs.Rewriting.{rewritten, rewrittenBuffer, pa
 pub extern "C" fn planner_read(text: &[u8]) -> u8
     ensures { λ r. ⌜ r ≡ reading (now (text .entry)) .outcome ⌝ }
 {
-    let judged = rules::read(text);
+    let judged = reader::read(text);
     judged.outcome
 }
 
@@ -21,7 +21,7 @@ pub extern "C" fn planner_read(text: &[u8]) -> u8
 pub fn rewrite(text: &[u8], out: &mut [u8]) -> Written
     ensures { λ r. ⌜ (r ≡ rewritten (now (text .entry)) (length (now (out .entry)))) × (now (out .exit) ≡ rewrittenBuffer (now (text .entry)) (length (now (out .entry)))) × RewriteMeaning (now (text .entry)) (length (now (out .entry))) r (now (out .exit)) ⌝ }
 {
-    let file = rules::read(text);
+    let file = reader::read(text);
     let refusal = file.outcome;
     if refusal != 0 {
         fill_from(out, 0, 0);
@@ -30,7 +30,7 @@ pub fn rewrite(text: &[u8], out: &mut [u8]) -> Written
             length: 0,
         };
     }
-    rules::write(file.set, out)
+    writer::write(file.set, out)
 }
 
 // An outcome and a length as one number.

@@ -2,7 +2,7 @@
 use macros::Macro;
 use macros::macro_of;
 use model::buffers::fill_from;
-use rules::read;
+use reader::read;
 ghost use mathlib.Core.Path.{_≡_};
 ghost use lib.ListN.{length, getD};
 ghost use Rattle.planner.specs.TextMacro.{macroBytes, macroBuffer, textMacro, TextMacroMeaning};

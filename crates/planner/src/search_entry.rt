@@ -25,7 +25,7 @@ pub fn search_text(
 ) -> Answer
     ensures { λ r. ⌜ (let query = asked reach (now (table .entry)) (now (start .entry)) (now (goal .entry)) «max_moves» «max_cost» «step_limit» (length (now (plan .entry))) in let found : Searched = record { answer = r; plan = now (plan .exit) } in (searchedText (now (text .entry)) query ≡ found) × TextSearchMeaning (now (text .entry)) query found) ⌝ }
 {
-    let file = rules::read(text);
+    let file = reader::read(text);
     let refusal = file.outcome;
     if refusal != 0 {
         fill_from(plan, 0, NO_MOVE);

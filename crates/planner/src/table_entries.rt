@@ -3,7 +3,7 @@ use model::buffers::fill_from;
 use pruning::build_table;
 use pruning::check_table;
 use pruning::table_size;
-use rules::read;
+use reader::read;
 ghost use mathlib.Core.Path.{_≡_};
 ghost use Prim.Native.Nat.{_/_, _%_};
 ghost use lib.ListN.{length};

@@ -4,7 +4,7 @@ use mathlib.Core.Path.{refl}
 use mathlib.Core.List.{List, []}
 use Prim.Native.Nat.{ℕ}
 use native.Mathlib.Omega.{arith}
-use Rattle.rules.specs.Overlay.{overlaid, Laid}
+use Rattle.writer.specs.Overlay.{overlaid, Laid}
 
 -- no byte leaves the text as it is
 pub laid-none : (at : ℕ) (text : List ℕ) → Laid at [] text at text

@@ -16,7 +16,7 @@ ghost use lib.Dec.{eqb};
 ghost use lib.ListN.{length};
 ghost use Rattle.model.specs.Validity.{Valid};
 ghost use Rattle.rules.specs.Text.{numeral, line};
-ghost use Rattle.rules.specs.Overlay.{Laid};
+ghost use Rattle.writer.specs.Overlay.{Laid};
 ghost use Rattle.tables.specs.Table.{sequenceCount, tableEntries};
 ghost use Rattle.report.specs.Listing.{listingOf};
 ghost use Rattle.report.specs.Marks.{MarksEarlier, tableText};
@@ -69,7 +69,7 @@ fn put_listing(text: &mut [u8], outcome: u8, set: RuleSet) -> usize
 pub fn report(text: &[u8], out: &mut [u8]) -> usize
     ensures { λ r. ⌜ (r ≡ reportLength (now (text .entry)) (length (now (out .entry)))) × (now (out .exit) ≡ reported (now (text .entry)) (length (now (out .entry)))) × ReportMeaning (now (text .entry)) (length (now (out .entry))) r (now (out .exit)) ⌝ }
 {
-    let reading = rules::read(text);
+    let reading = reader::read(text);
     let end = put_listing(out, reading.outcome, reading.set);
     if out.len() < end {
         fill_from(out, 0, 0);

@@ -4,7 +4,7 @@ ghost use mathlib.Core.Path.{_≡_};
 ghost use mathlib.Core.Logic.{_≢_};
 ghost use Prim.Native.Nat.{_+_, _*_, _≤_, _<_};
 ghost use lib.ListN.{length};
-ghost use Rattle.rules.specs.Overlay.{Laid};
+ghost use Rattle.writer.specs.Overlay.{Laid};
 ghost use Rattle.tables.specs.Table.{sequenceCount, kept, entryAt};
 ghost use Rattle.report.specs.Marks.{tableMarks, MarksEarlier, entryLines, marksText};
 

@@ -4,7 +4,7 @@ ghost use mathlib.Core.List.{[], _∷_, _++_};
 ghost use Prim.Native.Nat.{_+_, _≤_, _<_};
 ghost use lib.ListN.{length};
 ghost use Rattle.rules.specs.Text.{lineFeed, digit, numeral};
-ghost use Rattle.rules.specs.Overlay.{Laid};
+ghost use Rattle.writer.specs.Overlay.{Laid};
 ghost use Rattle.tables.specs.Table.{sequenceCount};
 ghost use Rattle.report.specs.Marks.{sequenceText};
 

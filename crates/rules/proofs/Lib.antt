@@ -18,11 +18,3 @@ pub mod RefusedLaws
 pub mod FaultLaws
 pub mod LengthLaws
 pub mod LongestFile
--- for the proofs of the functions
-pub mod FoundLaws
-pub mod ByteLaws
-pub mod PlacementLaws
-pub mod ReadLoopLaws
-pub mod OutcomeLaws
-pub mod OverlayLaws
-pub mod WriteLoopLaws

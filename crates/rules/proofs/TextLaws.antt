@@ -7,13 +7,12 @@ use mathlib.Core.List.{List, [], _∷_, _++_, map, append-assoc}
 use Prim.Native.Nat.{ℕ, zero, suc, _-_, _/_, _%_, _≤_, _<_}
 use Prim.Native.String.{String}
 use native.Mathlib.Omega.{arith}
-use lib.ListN.{length, take}
+use lib.ListN.{length}
 use borrow.Author.Tests.{lt-ltb, le-ltb}
 use Rattle.theory.proofs.TestLaws.{below?}
 use Rattle.rules.specs.Text.{bytes, lineFeed, comma, digit, numeral, commaList, line}
 use Rattle.rules.specs.File.{variableLetter, entryText}
 use Rattle.rules.specs.Reading.{isDigit, endingOf}
-use Rattle.rules.specs.Overlay.{listText}
 
 -- ── Numbers and entries ──────────────────────────────────────────────────────────────────────────
 
@@ -75,8 +74,3 @@ ended-commas itemText (e ∷ f ∷ l) rest h =
 pub line-text : (key : String) (items : List (List ℕ)) (rest : List ℕ) → line key items ++ rest ≡ bytes key ++ (commaList items ++ (lineFeed ∷ rest))
 unfolding line
 line-text key items rest = append-assoc (bytes key ++ commaList items) (lineFeed ∷ []) rest ∙ append-assoc (bytes key) (commaList items) (lineFeed ∷ rest)
-
--- a line is its key and what stands after the key
-pub list-line : (itemText : ℕ → List ℕ) (key : String) (count : ℕ) (l : List ℕ) → line key (map itemText (take count l)) ≡ bytes key ++ listText itemText count l
-unfolding line listText
-list-line itemText key count l = append-assoc (bytes key) (commaList (map itemText (take count l))) (lineFeed ∷ [])

@@ -2,6 +2,4 @@ pub mod Text
 pub mod File
 pub mod Reading
 pub mod Writing
-pub mod Found
-pub mod Overlay
 pub mod Faults

@@ -1,17 +1,7 @@
-// The rule file: reader and writer.
-mod items;
-mod lines;
-mod output;
-
-use model::Rule;
+// The rule file: types, definitions and laws. The code is in `reader` and `writer`, but for what both need.
 use model::RuleSet;
-use model::buffers::fill_from;
 ghost use mathlib.Core.Path.{_≡_};
-ghost use lib.ListN.{length};
-ghost use Rattle.model.specs.Rules.{blankRule, emptySet};
-ghost use Rattle.rules.specs.Reading.{fileLines, reading};
-ghost use Rattle.rules.specs.Found.{found};
-ghost use Rattle.rules.specs.Writing.{written, writtenBuffer};
+ghost use Rattle.rules.specs.Reading.{endingOf};
 
 // What reading a text gives: the outcome, 0 or 1 to 4, and the set, which is zero throughout when refused.
 pub struct Reading {
@@ -25,135 +15,12 @@ pub struct Written {
     pub length: usize,
 }
 
-// What the functions of the reader find at a place of the text: a refusal's number, or with outcome 0 a value and the place after it.
-
-// A number as it is written, before its limit is judged.
-struct FoundNumber {
-    outcome: u8,
-    value: u16,
-    next: usize,
-}
-
-// A number or an entry within its limit. After a key the value is 0.
-struct Found {
-    outcome: u8,
-    value: u8,
-    next: usize,
-}
-
-// The items of a line, 0 in the places beyond them.
-struct FoundLine {
-    outcome: u8,
-    entries: [u8; 16],
-    next: usize,
-}
-
-// The lines of one rule.
-struct FoundRule {
-    outcome: u8,
-    rule: Rule,
-    next: usize,
-}
-
-// The lines of all rules, zero throughout beyond them.
-struct FoundRules {
-    outcome: u8,
-    rules: [Rule; 31],
-    next: usize,
-}
-
-// All lines of the file.
-struct FoundSet {
-    outcome: u8,
-    set: RuleSet,
-    next: usize,
-}
-
-// An unused rule.
-fn blank_rule() -> Rule
-    ensures { λ r. ⌜ r ≡ blankRule ⌝ }
+// The byte that ends an item with so many items after it.
+pub fn ending(after: usize) -> u8
+    ensures { λ r. ⌜ r ≡ endingOf after ⌝ }
 {
-    Rule {
-        cost: 0,
-        condition: [0; 16],
-        effect: [0; 16],
+    if after == 0 {
+        return b'\n';
     }
-}
-
-// The set with 0 positions and 0 rules, zero throughout.
-fn empty_set() -> RuleSet
-    ensures { λ r. ⌜ r ≡ emptySet ⌝ }
-{
-    let blank = blank_rule();
-    RuleSet {
-        positions: 0,
-        sizes: [0; 16],
-        count: 0,
-        rules: [blank; 31],
-    }
-}
-
-// The outcome of a text, by what reading its lines gave: a line's fault, then bytes left over, then duplicates.
-fn outcome_of(text: &[u8], file: FoundSet) -> u8
-    requires { ⌜ fileLines (now text) ≡ found (file .outcome) (file .set) (file .next) (now text) ⌝ }
-    ensures { λ r. ⌜ r ≡ reading (now (text .entry)) .outcome ⌝ }
-{
-    let fault = file.outcome;
-    let next = file.next;
-    let found = file.set;
-    if fault != 0 {
-        return fault;
-    }
-    // the lines have no fault, so only duplicates can make the set invalid
-    let valid = model::is_valid(found);
-    if next < text.len() {
-        return 1;
-    }
-    if !valid {
-        return 4;
-    }
-    0
-}
-
-// Reads a rule file: its set, or the first fault's number and the empty set.
-pub fn read(text: &[u8]) -> Reading
-    ensures { λ r. ⌜ r ≡ reading (now (text .entry)) ⌝ }
-{
-    let file = lines::file_lines(text);
-    let set = file.set;
-    let empty = empty_set();
-    let outcome = outcome_of(text, file);
-    if outcome != 0 {
-        return Reading {
-            outcome,
-            set: empty,
-        };
-    }
-    Reading { outcome: 0, set }
-}
-
-// Writes the file of a set into the text, and zeros after it; zeros alone when refused.
-pub fn write(set: RuleSet, text: &mut [u8]) -> Written
-    ensures { λ r. ⌜ (r ≡ written set (length (now (text .entry)))) × (now (text .exit) ≡ writtenBuffer set (length (now (text .entry)))) ⌝ }
-{
-    if !model::is_valid(set) {
-        fill_from(text, 0, 0);
-        return Written {
-            outcome: 7,
-            length: 0,
-        };
-    }
-    let end = output::put_file(text, set);
-    if text.len() < end {
-        fill_from(text, 0, 0);
-        return Written {
-            outcome: 8,
-            length: 0,
-        };
-    }
-    fill_from(text, end, 0);
-    Written {
-        outcome: 0,
-        length: end,
-    }
+    b','
 }

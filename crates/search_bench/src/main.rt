@@ -189,7 +189,7 @@ fn read(input: &[u8]) {
     let second = leading_line(rest, &mut goal);
     let asked = second.count;
     let after_goal = second.size;
-    let reading = rules::read(&rest[after_goal..]);
+    let reading = reader::read(&rest[after_goal..]);
     print(b"read=", reading.outcome as u64);
     if reading.outcome == 0 {
         run(reading.set, bounds, &start[0..positions], &goal[0..asked]);

@@ -514,7 +514,7 @@ fn print_part(text: &[u8], plan: &[u8]) {
 fn read_set(text: &[u8]) -> RuleSet {
     let mut file = io::large_buffer();
     let size = decode(text, &mut file);
-    let reading = rules::read(&file[0..size]);
+    let reading = reader::read(&file[0..size]);
     print_byte(reading.outcome);
     reading.set
 }
@@ -635,7 +635,7 @@ fn run(standing: Standing, line: &[u8], table: &mut [u8], plan: &mut [u8]) -> St
 fn first_standing() -> Standing
     ensures { λ r. ⌜ r .size ≤ 0 ⌝ }
 {
-    let empty = rules::read(b"");
+    let empty = reader::read(b"");
     let set = empty.set;
     let tally = tally_of(b"");
     Standing {

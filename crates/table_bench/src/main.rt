@@ -137,7 +137,7 @@ fn read(input: &[u8]) {
     let rest = &input[after_first..];
     let checks = leading_number(rest);
     let after_second = checks.size;
-    let reading = rules::read(&rest[after_second..]);
+    let reading = reader::read(&rest[after_second..]);
     print(b"outcome=", reading.outcome as u64);
     if reading.outcome == 0 {
         run(reading.set, builds.value, checks.value);

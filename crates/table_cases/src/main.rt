@@ -372,7 +372,7 @@ fn print_entry(count: u8, text: &[u8], table: &[u8]) {
 fn read_set(text: &[u8]) -> RuleSet {
     let mut file = io::large_buffer();
     let size = decode(text, &mut file);
-    let reading = rules::read(&file[0..size]);
+    let reading = reader::read(&file[0..size]);
     print_byte(reading.outcome);
     reading.set
 }
@@ -443,7 +443,7 @@ fn run(set: RuleSet, line: &[u8], table: &mut [u8]) -> RuleSet
 fn run_lines(input: &[u8], table: &mut [u8])
     requires { ⌜ length (now table) ≤ 65536 ⌝ }
 {
-    let empty = rules::read(b"");
+    let empty = reader::read(b"");
     let mut set = empty.set;
     let mut from: usize = 0;
     while from < input.len() {

@@ -7,7 +7,7 @@ use native.Mathlib.Omega.{arith}
 use lib.ListN.{length, length-append}
 use borrow.Author.Needs.{needs}
 use Rattle.rules.specs.Text.{bytes, lineFeed, numeral, line}
-use Rattle.rules.proofs.OverlayLaws.{laid-append}
+use Rattle.writer.proofs.OverlayLaws.{laid-append}
 use Rattle.tables.proofs.CountLaws.{count-prefix}
 use Rattle.report.specs.Marks.{tableMarks, marksText, tableText}
 use Rattle.report.proofs.put_table.Statement.{statement}

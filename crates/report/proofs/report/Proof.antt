@@ -12,7 +12,7 @@ use Rattle.model.proofs.BufferLaws.{filled-whole}
 use Rattle.rules.specs.Text.{numeral, line}
 use Rattle.rules.specs.Reading.{reading}
 use Rattle.rules.specs.declared.Reading.{Reading}
-use Rattle.rules.proofs.OverlayLaws.{laid-length, zeros-laid}
+use Rattle.writer.proofs.OverlayLaws.{laid-length, zeros-laid}
 use Rattle.report.specs.Listing.{listingOf, listing}
 use Rattle.report.specs.Report.{reportLength, reported, ReportMeaning}
 use Rattle.report.proofs.LengthLaws.{read-valid}

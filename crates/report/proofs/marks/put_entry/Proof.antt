@@ -2,7 +2,7 @@
 -- Assumes nothing.
 use native.Mathlib.Omega.{arith}
 use borrow.Author.Needs.{needs}
-use Rattle.rules.proofs.OverlayLaws.{laid-append}
+use Rattle.writer.proofs.OverlayLaws.{laid-append}
 use Rattle.report.proofs.OverlayLaws.{laid-none}
 use Rattle.report.proofs.MarkLoopLaws.{entry-kept, entry-marked, entry-length}
 use Rattle.report.proofs.marks.put_entry.Statement.{statement}

@@ -4,7 +4,7 @@ use mathlib.Core.Path.{sym, ap, _∙_, subst}
 use Prim.Native.Nat.{_-_, _/_, _≤_, _<_}
 use native.Mathlib.Omega.{arith}
 use lib.ListN.{length, length-append}
-use Rattle.rules.proofs.OverlayLaws.{Remains, remains-all, remains-length, remains-none, remains-rest}
+use Rattle.writer.proofs.OverlayLaws.{Remains, remains-all, remains-length, remains-none, remains-rest}
 use Rattle.report.specs.Marks.{marksText}
 use Rattle.report.proofs.MarkLoopLaws.{linesFrom, lines-all, lines-more, lines-end}
 use Rattle.report.proofs.marks.put_marks.Statement.{statement}

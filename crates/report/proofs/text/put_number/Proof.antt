@@ -5,7 +5,7 @@ use native.Mathlib.Omega.{arith}
 use lib.ListN.{length}
 use borrow.Author.Needs.{needs}
 use Rattle.rules.proofs.TextLaws.{numeral-one, numeral-two, numeral-three}
-use Rattle.rules.proofs.OverlayLaws.{laid-append}
+use Rattle.writer.proofs.OverlayLaws.{laid-append}
 use Rattle.report.proofs.text.put_number.Statement.{statement}
 use Rattle.report.proofs.text.put_number.Tie as tie
 

@@ -1,0 +1,5 @@
+pub mod FoundLaws
+pub mod ByteLaws
+pub mod PlacementLaws
+pub mod ReadLoopLaws
+pub mod OutcomeLaws

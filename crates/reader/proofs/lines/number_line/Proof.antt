@@ -1,0 +1,26 @@
+-- `reader::lines::number_line` meets its contract: the key, and then the number.
+-- Assumes nothing.
+use mathlib.Core.Path.{_∙_}
+use borrow.Author.Needs.{needs}
+use Rattle.reader.proofs.FoundLaws.{then-refused, then-parsed}
+use Rattle.reader.proofs.lines.number_line.Statement.{statement}
+use Rattle.reader.proofs.lines.number_line.Tie as tie
+
+word-requires : tie.Need-word-requires
+word-requires c κs = search needs
+
+no-item-requires : tie.Need-no-item-requires
+no-item-requires c κs = search needs
+
+returns : tie.Need-returns
+returns c = rw (c .no-item .ensures) (then-refused _ _ _ _ _ _ (c .before .before .word .ensures) (c .before .if1 .taken))
+
+number-within-requires : tie.Need-number-within-requires
+number-within-requires c κs = search needs
+
+returns-2 : tie.Need-returns-2
+returns-2 c = then-parsed _ _ _ _ (c .before .before .word .ensures) (c .before .if1 .left) ∙ c .number-within .ensures
+
+pub number-line-spec : {M : Type 1} → statement M
+number-line-spec =
+    tie.close (tie.spec word-requires no-item-requires returns number-within-requires returns-2)

@@ -1,0 +1,102 @@
+-- `reader::lines::sizes_line` meets its contract. The invariant: the first i sizes stand in the array, and what is left of the text decides the line.
+-- Assumes nothing.
+use mathlib.Core.Path.{sym}
+use Prim.Native.Nat.{_-_}
+use lib.ListN.{drop}
+use borrow.Author.Needs.{needs}
+use Rattle.rules.specs.Reading.{sizeItem, itemsAfter, listLine}
+use Rattle.reader.proofs.FoundLaws.{then-refused, then-parsed}
+use Rattle.reader.proofs.ReadLoopLaws.{SoFar, items-list, fill-start, fill-go, fill-stop, fill-end}
+use Rattle.reader.proofs.lines.sizes_line.Statement.{statement}
+use Rattle.reader.proofs.lines.sizes_line.Tie as tie
+
+abbrev Inv-loop : tie.InvT-loop
+Inv-loop text at positions outcome count entries₀ next₀ i₀ entries next i =
+    SoFar (itemsAfter sizeItem) 16 0 count text (listLine "sizes=" sizeItem positions (drop at text)) entries next i
+
+abbrev μ-loop : tie.MeasureT-loop
+μ-loop text at positions outcome count entries₀ next₀ i₀ entries next i = count - i
+
+slice-aggregate-word : tie.Need-slice-aggregate-word Inv-loop μ-loop
+slice-aggregate-word c = search needs
+
+word-requires : tie.Need-word-requires Inv-loop μ-loop
+word-requires c κs = search needs
+
+no-line-requires : tie.Need-no-line-requires Inv-loop μ-loop
+no-line-requires c κs = search needs
+
+returns : tie.Need-returns Inv-loop μ-loop
+unfolding listLine
+returns c = rw (c .no-line .ensures) (then-refused _ _ _ _ _ _ (c .before .before .word .ensures) (c .before .if1 .taken))
+
+loop-holds : tie.Need-loop-holds Inv-loop μ-loop
+unfolding listLine
+loop-holds c =
+    fill-start (items-list sizeItem) (c .before .word .result .next) (c .before .before .before .before .pre)
+    (sym (then-parsed _ _ _ _ (c .before .word .ensures) (c .if1 .left)))
+
+sub-ending : tie.Need-sub-ending Inv-loop μ-loop
+sub-ending c = search needs
+
+sub-ending-2 : tie.Need-sub-ending-2 Inv-loop μ-loop
+sub-ending-2 c = search needs
+
+ending-requires : tie.Need-ending-requires Inv-loop μ-loop
+ending-requires c κs = search needs
+
+number-within-requires : tie.Need-number-within-requires Inv-loop μ-loop
+number-within-requires c κs = search needs
+
+no-line-requires-2 : tie.Need-no-line-requires-2 Inv-loop μ-loop
+no-line-requires-2 c κs = search needs
+
+returns-2 : tie.Need-returns-2 Inv-loop μ-loop
+unfolding sizeItem
+returns-2 c =
+    let t = c .before .before .before .before .before in
+    rw (c .no-line2 .ensures)
+    (fill-stop (items-list sizeItem) (t .loop .inv) _ _ _ _ (c .before .before .before .before .loop-test .taken)
+    (rw (c .before .before .before .ending .ensures) at (c .before .before .number-within .ensures)) (c .before .if2 .taken))
+
+array-write-entries : tie.Need-array-write-entries Inv-loop μ-loop
+array-write-entries c = search needs
+
+add-i : tie.Need-add-i Inv-loop μ-loop
+add-i c = search needs
+
+loop-less : tie.Need-loop-less Inv-loop μ-loop
+loop-less c = search needs
+
+loop-again : tie.Need-loop-again Inv-loop μ-loop
+unfolding sizeItem
+loop-again c =
+    let t = c .before .before .before .before in
+    fill-go (items-list sizeItem) (t .loop .inv) _ _ (c .before .before .before .loop-test .taken)
+    (rw (c .before .before .ending .ensures) at (c .before .number-within .ensures)) (c .if2 .left)
+
+returns-3 : tie.Need-returns-3 Inv-loop μ-loop
+returns-3 c = fill-end (items-list sizeItem) (c .before .loop .inv) (c .loop-test .left)
+
+pub sizes-line-spec : {M : Type 1} → statement M
+sizes-line-spec =
+    tie.close
+    (tie.spec
+    Inv-loop
+    μ-loop
+    slice-aggregate-word
+    word-requires
+    no-line-requires
+    returns
+    loop-holds
+    sub-ending
+    sub-ending-2
+    ending-requires
+    number-within-requires
+    no-line-requires-2
+    returns-2
+    array-write-entries
+    add-i
+    loop-less
+    loop-again
+    returns-3)

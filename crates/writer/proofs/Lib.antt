@@ -1,0 +1,2 @@
+pub mod OverlayLaws
+pub mod WriteLoopLaws

@@ -1,0 +1,22 @@
+-- `writer::output::put` meets its contract: the byte stands within the text, or past its end.
+-- Assumes nothing.
+use mathlib.Core.Logic.{⊎-elim}
+use borrow.Author.Needs.{needs}
+use Rattle.writer.proofs.OverlayLaws.{laid-within, laid-past, laid-length}
+use Rattle.writer.proofs.output.put.Statement.{statement}
+use Rattle.writer.proofs.output.put.Tie as tie
+
+slice-write-text : tie.Need-slice-write-text
+slice-write-text c = search needs
+
+add-result : tie.Need-add-result
+add-result c = search needs
+
+returns : tie.Need-returns
+returns c = ⊎-elim (λ w. rw (w .1) (laid-within _ _ _)) (λ w. rw (w .1) (laid-past _ _ _ (w .0 .left))) (c .if1 .came)
+
+same-length : tie.Need-same-length
+same-length c = laid-length (returns c)
+
+pub put-spec : {M : Type 1} → statement M
+put-spec = tie.close (tie.spec slice-write-text add-result same-length returns)

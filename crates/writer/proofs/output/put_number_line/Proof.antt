@@ -1,0 +1,31 @@
+-- `writer::output::put_number_line` meets its contract: the key, the number and the line feed, laid one after the other.
+-- Assumes nothing.
+use native.Mathlib.Omega.{arith}
+use borrow.Author.Needs.{needs}
+use lib.ListN.{length-append}
+use Rattle.writer.proofs.OverlayLaws.{laid-append}
+use Rattle.writer.proofs.output.put_number_line.Statement.{statement}
+use Rattle.writer.proofs.output.put_number_line.Tie as tie
+
+put-word-requires : tie.Need-put-word-requires
+put-word-requires c κs = omega (arith, simp length-append at (c .before .before .before .pre))
+
+put-number-requires : tie.Need-put-number-requires
+put-number-requires c κs = omega (arith, simp length-append at (c .before .before .before .before .before .before .before .pre))
+
+put-requires : tie.Need-put-requires
+put-requires c κs = omega (arith, simp length-append at (c .before .before .before .before .before .before .before .before .before .before .before .pre))
+
+same-length : tie.Need-same-length
+same-length c = search needs
+
+returns : tie.Need-returns
+returns c =
+    let end = c .before .before in
+    let number = end .before .before .before .before in
+    let key = number .before .before .before .before in
+    laid-append (laid-append (key .put-word .ensures) (number .put-number .ensures)) (end .put .ensures)
+
+pub put-number-line-spec : {M : Type 1} → statement M
+put-number-line-spec =
+    tie.close (tie.spec put-word-requires put-number-requires put-requires same-length returns)

@@ -1,0 +1,106 @@
+-- `writer::write` meets its contract. Each way out has one cause or none, and zeros after what was laid; a valid set's file is short enough for `put_file`.
+-- Assumes nothing.
+use mathlib.Core.Path.{_≡_, refl, ap, _∙_}
+use mathlib.Core.Bool.{true, false}
+use mathlib.Core.List.{[]}
+use Prim.Native.Nat.{ℕ, _≤_, _<_}
+use native.Mathlib.Omega.{arith}
+use lib.ListN.{length}
+use borrow.Author.Tests.{lt-ltb, le-ltb}
+use borrow.Author.Needs.{needs}
+use Rattle.theory.specs.Lists.{padded}
+use Rattle.model.specs.Validity.{valid, Valid}
+use Rattle.model.specs.declared.RuleSet.{RuleSet}
+use Rattle.model.proofs.LoopLaws.{failed, passed}
+use Rattle.model.proofs.ValidityLaws.{valid-iff}
+use Rattle.rules.specs.File.{render}
+use Rattle.rules.specs.Writing.{writeCauses, writtenText, written, writtenBuffer}
+use Rattle.rules.proofs.LengthLaws.{render-bound}
+use Rattle.writer.proofs.OverlayLaws.{laid-length, zeros-whole, zeros-laid}
+use Rattle.writer.proofs.write.Statement.{statement}
+use Rattle.writer.proofs.write.Tie as tie
+
+-- the answer and the buffer, by the causes
+module _ (set : RuleSet) (room : ℕ) where
+  not-valid : valid set ≡ false → (record { outcome = 7; length = 0 } ≡ written set room) × (padded room 0 [] ≡ writtenBuffer set room)
+  unfolding written writtenBuffer writtenText writeCauses
+  not-valid t = rw t (refl, refl)
+
+  no-room : valid set ≡ true → room < length (render set) → (record { outcome = 8; length = 0 } ≡ written set room) × (padded room 0 [] ≡ writtenBuffer set room)
+  unfolding written writtenBuffer writtenText writeCauses
+  no-room t h = rw (t, lt-ltb room (length (render set)) h) (refl, refl)
+
+  fits : (end : ℕ) → valid set ≡ true → end ≡ length (render set) → end ≤ room
+      → (record { outcome = 0; length = end } ≡ written set room) × (padded room 0 (render set) ≡ writtenBuffer set room)
+  unfolding written writtenBuffer writtenText writeCauses
+  fits end t e h = rw (t, le-ltb room (length (render set)) (omega arith), e) (refl, refl)
+
+is-valid-requires : tie.Need-is-valid-requires
+is-valid-requires c κs = search needs
+
+fill-from-requires : tie.Need-fill-from-requires
+fill-from-requires c κs = search needs
+
+same-length : tie.Need-same-length
+same-length c = search needs
+
+returns : tie.Need-returns
+returns c =
+    let branch = c .before .before .before .before in
+    let s = branch .before .before .before .args in
+    let w = not-valid (s .set) (length (s .text .now)) (failed (branch .before .is-valid .ensures) (branch .if1 .taken)) in
+    (w .0, c .before .before .fill-from .ensures ∙ zeros-whole _ ∙ w .1)
+
+put-file-requires : tie.Need-put-file-requires
+put-file-requires c κs =
+    let set = c .before .before .before .before .args .set in
+    let t = passed (c .before .before .is-valid .ensures) (c .before .if1 .left) in
+    let v : Valid set = valid-iff set .0 t in
+    (v .positionLimits .0, v .positionLimits .1, v .countLimits .1, omega (arith, render-bound set t))
+
+fill-from-requires-2 : tie.Need-fill-from-requires-2
+fill-from-requires-2 c κs = search needs
+
+same-length-2 : tie.Need-same-length-2
+same-length-2 c = search needs
+
+returns-2 : tie.Need-returns-2
+returns-2 c =
+    let file = c .before .before .before .before .before .before .before in
+    let branch = file .before .before in
+    let s = branch .before .before .before .args in
+    let same = laid-length (file .put-file .ensures) in
+    let w = no-room (s .set) (length (s .text .now)) (passed (branch .before .is-valid .ensures) (branch .if1 .left)) (omega arith) in
+    (w .0, c .before .before .fill-from2 .ensures ∙ zeros-whole _ ∙ ap (λ n. padded n 0 []) same ∙ w .1)
+
+fill-from-requires-3 : tie.Need-fill-from-requires-3
+fill-from-requires-3 c κs = search needs
+
+same-length-3 : tie.Need-same-length-3
+same-length-3 c = search needs
+
+returns-3 : tie.Need-returns-3
+returns-3 c =
+    let file = c .before .before .before .before .before .before .before in
+    let branch = file .before .before in
+    let s = branch .before .before .before .args in
+    let laid = file .put-file .ensures in
+    let same = laid-length laid in
+    let w = fits (s .set) (length (s .text .now)) (file .put-file .result) (passed (branch .before .is-valid .ensures) (branch .if1 .left)) (omega arith) (omega arith) in
+    (w .0, c .before .before .fill-from3 .ensures ∙ zeros-laid laid (omega arith) ∙ w .1)
+
+pub write-spec : {M : Type 1} → statement M
+write-spec =
+    tie.close
+    (tie.spec
+    is-valid-requires
+    fill-from-requires
+    same-length
+    returns
+    put-file-requires
+    fill-from-requires-2
+    same-length-2
+    returns-2
+    fill-from-requires-3
+    same-length-3
+    returns-3)

@@ -1,0 +1,35 @@
+// The writer of rule files.
+mod output;
+
+use model::RuleSet;
+use model::buffers::fill_from;
+use rules::Written;
+ghost use mathlib.Core.Path.{_≡_};
+ghost use lib.ListN.{length};
+ghost use Rattle.rules.specs.Writing.{written, writtenBuffer};
+
+// Writes the file of a set into the text, and zeros after it; zeros alone when refused.
+pub fn write(set: RuleSet, text: &mut [u8]) -> Written
+    ensures { λ r. ⌜ (r ≡ written set (length (now (text .entry)))) × (now (text .exit) ≡ writtenBuffer set (length (now (text .entry)))) ⌝ }
+{
+    if !model::is_valid(set) {
+        fill_from(text, 0, 0);
+        return Written {
+            outcome: 7,
+            length: 0,
+        };
+    }
+    let end = output::put_file(text, set);
+    if text.len() < end {
+        fill_from(text, 0, 0);
+        return Written {
+            outcome: 8,
+            length: 0,
+        };
+    }
+    fill_from(text, end, 0);
+    Written {
+        outcome: 0,
+        length: end,
+    }
+}
