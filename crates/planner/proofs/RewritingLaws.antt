@@ -18,9 +18,9 @@ use Rattle.rules.proofs.WriterLaws.{writes-iff, short-iff}
 use Rattle.rules.proofs.AgainLaws.{file-again}
 use Rattle.rules.proofs.RefusedLaws.{reading-bound, written-refused}
 use Rattle.rules.proofs.LengthLaws.{render-bound}
+use Rattle.rules.proofs.ReadTextLaws.{read-as}
 use Rattle.planner.specs.Rewriting.{rewritten, rewrittenBuffer, RewriteMeaning}
 use Rattle.planner.proofs.OfTextLaws.{of-read, of-refused}
-use Rattle.planner.proofs.ReadTextLaws.{read-as}
 
 module _ (text : List ℕ) (room : ℕ) where
   -- ── The two ways ───────────────────────────────────────────────────────────────────────────────

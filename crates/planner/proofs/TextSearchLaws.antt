@@ -9,6 +9,7 @@ use lib.ListN.{replicate}
 use Rattle.theory.proofs.TestLaws.{equal?}
 use Rattle.rules.specs.Reading.{reading}
 use Rattle.rules.proofs.RefusedLaws.{reading-bound}
+use Rattle.rules.proofs.ReadTextLaws.{read-valid}
 use Rattle.queries.specs.Query.{Query}
 use Rattle.queries.specs.Searched.{Searched, searched, noMove, SearchMeaning}
 use Rattle.queries.proofs.AnswerLaws.{outcome-bound, cost-bound, length-bound, steps-bound, searched-blank}
@@ -17,7 +18,6 @@ use Rattle.planner.specs.Packed.{textRefused, searchedText}
 use Rattle.planner.specs.TextSearch.{TextSearchMeaning}
 use Rattle.planner.proofs.OfTextLaws.{of-read, of-refused}
 use Rattle.planner.proofs.PackedLaws.{Fits}
-use Rattle.planner.proofs.ReadTextLaws.{read-valid}
 
 module _ (text : List ℕ) (query : Query) where
   pub refused-text : reading text .outcome ≢ 0 → searchedText text query ≡ textRefused (reading text .outcome) (query .planSize)

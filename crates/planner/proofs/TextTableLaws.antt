@@ -12,13 +12,13 @@ use Rattle.model.specs.declared.RuleSet.{RuleSet}
 use Rattle.model.proofs.RefusalLaws.{refusal-at-most}
 use Rattle.rules.specs.Reading.{reading}
 use Rattle.rules.proofs.RefusedLaws.{reading-bound}
+use Rattle.rules.proofs.ReadTextLaws.{read-valid}
 use Rattle.tables.specs.declared.TableSize.{TableSize}
 use Rattle.tables.specs.Answers.{sizeCauses, tableSize, buildOutcome, builtBuffer, checkOutcome}
 use Rattle.tables.proofs.AnswerLaws.{built-whole, built-checks, build-meaning, check-meaning}
 use Rattle.tables.proofs.SizeLaws.{size-meaning, size-builds-iff}
 use Rattle.planner.specs.TextTables.{textTableSize, textBuildOutcome, textBuiltBuffer, textCheckOutcome, TextSizeMeaning, TextBuildMeaning, TextCheckMeaning}
 use Rattle.planner.proofs.OfTextLaws.{of-read, of-refused}
-use Rattle.planner.proofs.ReadTextLaws.{read-valid}
 
 -- an outcome is not 7 where it is the reading's for a refused text, and says that the set is not valid for any other
 pub not-7 : (text : List ℕ) (outcome : ℕ) → (reading text .outcome ≢ 0 → outcome ≡ reading text .outcome)

@@ -27,13 +27,14 @@ use Rattle.rules.specs.Reading.{Parsed, refused, parsed, andRead, literal, isDi
 use Rattle.rules.specs.Reading.{endingOf, itemsAfter, numberLine, listLine, ruleLines, rulesAfter, ruleList, fileLines, finished, reading}
 use Rattle.rules.specs.Faults.{NumberFault, noNumber, numberOutside, leftOver}
 use Rattle.rules.proofs.ParserLaws.{not-refused, refused-first}
-use Rattle.rules.proofs.TextLaws.{by-length, ending-digit}
+use Rattle.rules.proofs.TextLaws.{ending-digit}
 use Rattle.rules.proofs.NumberLaws.{number-read, number-back}
 use Rattle.rules.proofs.FilledLaws.{small-sizes}
 use Rattle.rules.proofs.ItemFaultLaws.{number-fault}
 use Rattle.rules.proofs.FileLaws.{sizes-read}
 use Rattle.rules.proofs.RoundTrip.{accepted-iff}
 use Rattle.rules.proofs.FaultLaws.{form-iff}
+use Rattle.rules.proofs.LengthLaws.{numeral-length}
 use Rattle.rules.proofs.LongestFile.{longest, longest-valid, longest-length}
 use Rattle.report.specs.Listing.{listing}
 use Rattle.report.proofs.FrontLaws.{Agrees, ByFront, Within, weaker, value-front, also-front, behind-one, then-front, judged-front}
@@ -53,13 +54,6 @@ word-front (b ∷ word) (c ∷ text) (suc n) h = go (eqb b c) (literal word text
         → Agrees (Within (suc (length word))) (suc n) (cond t q (refused 1)) (cond t (literal word (take n text)) (refused 1))
     go true q w = behind-one (Within (length word)) (Within (suc (length word))) (λ _ u h. omega arith) n q (literal word (take n text)) w
     go false q w = refl
-
--- a number has at most three digits, below 100 at most two, below ten one
-digits-used : (m : ℕ) → (length (numeral m) ≤ 3) × (m < 100 → length (numeral m) ≤ 2) × (m < 10 → length (numeral m) ≤ 1)
-digits-used m =
-    by-length (λ ds. (length ds ≤ 3) × (m < 100 → length ds ≤ 2) × (m < 10 → length ds ≤ 1)) m (λ _. (omega arith, λ _. omega arith, λ _. omega arith))
-    (λ h _. (omega arith, λ _. omega arith, λ k. absurd (omega arith)))
-    (λ h. (omega arith, λ k. absurd (omega arith), λ k. absurd (omega arith)))
 
 -- the bytes that a number uses, with the one that ends it
 record NumberUse (m u : ℕ) : Type 0 where
@@ -102,7 +96,7 @@ module _ (ending : ℕ) (digit : isDigit ending ≡ false) where
       go (refused r) e = cut-refused r e (number ending (take n text)) refl
       go (parsed m rest) e =
           let w = number-read ending text m rest e in
-          let long = digits-used m in
+          let long = numeral-length m in
           let cut = ap (take n) (w .1) ∙ item-cut (numeral m) ending rest n (omega arith) in (
             length (numeral m) + 1,
             record { most = omega arith; two = λ k. omega (arith, long .1 k); one = λ k. omega (arith, long .2 k) },

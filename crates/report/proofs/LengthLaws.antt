@@ -1,10 +1,9 @@
 -- The length of a listing: at most 20,859 bytes. Numbers, sequences, lines, and the marks, of which there are at most 992, are bounded one after the other.
 -- Assumes nothing.
-use mathlib.Core.Path.{_≡_, refl, sym, ap, _∙_}
+use mathlib.Core.Path.{_≡_, refl, sym, _∙_}
 use mathlib.Core.Bool.{Bool, true, false, not, cond}
 use mathlib.Core.List.{List, [], _∷_}
-use Prim.Native.Nat.{ℕ, zero, suc, _+_, _≤_, _<_}
-use Prim.Native.String.{String}
+use Prim.Native.Nat.{ℕ, zero, suc, _≤_, _<_}
 use native.Mathlib.Omega.{arith}
 use lib.Dec.{eqb}
 use lib.ListN.{length, length-append}
@@ -12,13 +11,11 @@ use borrow.Author.Tests.{eqb-true, eq-eqb}
 use Rattle.theory.specs.Lists.{_∈_, keep, numbersFrom}
 use Rattle.theory.specs.Sequences.{Sequence, Numbered}
 use Rattle.theory.proofs.ListLaws.{length-numbersFrom}
-use Rattle.model.specs.Validity.{Valid}
 use Rattle.model.specs.declared.RuleSet.{RuleSet}
-use Rattle.rules.specs.Text.{bytes, comma, numeral, commaList, line}
+use Rattle.rules.specs.Text.{comma, numeral, commaList, line}
 use Rattle.rules.specs.Reading.{reading}
-use Rattle.rules.specs.declared.Reading.{Reading}
-use Rattle.rules.proofs.TextLaws.{by-length}
-use Rattle.rules.proofs.RoundTrip.{read-written}
+use Rattle.rules.proofs.LengthLaws.{numeral-length, line-length}
+use Rattle.rules.proofs.ReadTextLaws.{read-valid}
 use Rattle.tables.specs.Table.{tableEntries, sequenceAt, kept, builtEntry, builtTable}
 use Rattle.tables.proofs.CountLaws.{count-prefix}
 use Rattle.tables.proofs.TableLaws.{index-sequence, sequence-index, accepted-iff, built-entry, built-least, built-accepted}
@@ -27,18 +24,6 @@ use Rattle.report.proofs.ListLaws.{keep-length, flat-length}
 use Rattle.report.proofs.MarkLaws.{marked-entry-iff}
 
 -- ── Numbers, sequences and lines ─────────────────────────────────────────────────────────────────
-
--- a number has at most three digits, below 100 at most two, below ten one
-pub numeral-length : (n : ℕ) → (length (numeral n) ≤ 3) × (n < 100 → length (numeral n) ≤ 2) × (n < 10 → length (numeral n) ≤ 1)
-numeral-length n =
-    by-length (λ ds. (length ds ≤ 3) × (n < 100 → length ds ≤ 2) × (n < 10 → length ds ≤ 1)) n (λ _. (omega arith, λ _. omega arith, λ _. omega arith))
-    (λ h _. (omega arith, λ _. omega arith, λ k. absurd (omega arith)))
-    (λ h. (omega arith, λ k. absurd (omega arith), λ k. absurd (omega arith)))
-
--- a line has its key, its list and a line feed
-pub line-length : (key : String) (items : List (List ℕ)) → length (line key items) ≡ length (bytes key) + length (commaList items) + 1
-unfolding line
-line-length key items = simp length-append (omega arith)
 
 -- at most two rule numbers have at most five bytes
 sequence-length : (m : ℕ) → m ≤ 31 → (q : Sequence) → length q ≤ 2 → Numbered m q → length (commaList (sequenceItems q)) ≤ 5
@@ -103,10 +88,6 @@ listing-of-some : (set : RuleSet) → 1 ≤ length (listingOf set)
 unfolding listingOf
 listing-of-some set = simp (length-append, line-length "reach=") (omega arith)
 
--- a set that was read is valid
-pub read-valid : (text : List ℕ) (r : Reading) → r ≡ reading text → r .outcome ≡ 0 → Valid (r .set)
-read-valid text r p e = read-written text (r .set) (sym p ∙ ap {B = Reading} (λ o. record { outcome = o; set = r .set }) e) .0
-
 -- a listing has at most 20,859 bytes, and at least one
 pub listing-limits : (text : List ℕ) → (1 ≤ length (listing text)) × (length (listing text) ≤ 20859)
 unfolding listing
@@ -116,7 +97,7 @@ listing-limits text = go (eqb (reading text .outcome) 0) refl
         → (1 ≤ length (cond b (listingOf (reading text .set)) (line "refused=" (numeral (reading text .outcome) ∷ []))))
         × (length (cond b (listingOf (reading text .set)) (line "refused=" (numeral (reading text .outcome) ∷ []))) ≤ 20859)
     go true e =
-        let valid = read-valid text (reading text) refl (eqb-true (reading text .outcome) 0 e) in
+        let valid = read-valid text (eqb-true (reading text .outcome) 0 e) in
         (listing-of-some (reading text .set), listing-of-length (reading text .set) (valid .countLimits .1))
     go false e = rw (line-length "refused=" (numeral (reading text .outcome) ∷ [])) (omega arith, omega (arith, numeral-length (reading text .outcome) .0))
 

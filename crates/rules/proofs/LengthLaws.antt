@@ -25,7 +25,7 @@ use Rattle.rules.proofs.TextLaws.{by-length, constant-text, variable-te
 -- ── Numbers and entries ──────────────────────────────────────────────────────────────────────────
 
 -- a number has at most three digits, below 100 at most two, below ten one
-numeral-length : (n : ℕ) → (length (numeral n) ≤ 3) × (n < 100 → length (numeral n) ≤ 2) × (n < 10 → length (numeral n) ≤ 1)
+pub numeral-length : (n : ℕ) → (length (numeral n) ≤ 3) × (n < 100 → length (numeral n) ≤ 2) × (n < 10 → length (numeral n) ≤ 1)
 numeral-length n =
     by-length (λ ds. (length ds ≤ 3) × (n < 100 → length ds ≤ 2) × (n < 10 → length ds ≤ 1)) n (λ _. (omega arith, λ _. omega arith, λ _. omega arith))
     (λ h _. (omega arith, λ _. omega arith, λ k. absurd (omega arith)))
@@ -62,7 +62,7 @@ comma-length text (x ∷ y ∷ l) room (suc n) m b h =
     )
 
 -- a line has its key, its list and a line feed
-line-length : (key : String) (items : List (List ℕ)) → length (line key items) ≡ length (bytes key) + length (commaList items) + 1
+pub line-length : (key : String) (items : List (List ℕ)) → length (line key items) ≡ length (bytes key) + length (commaList items) + 1
 unfolding line
 line-length key items = simp length-append (omega arith)
 

@@ -12,6 +12,7 @@ pub mod ReadingLaws
 pub mod ItemFaultLaws
 pub mod LineFaultLaws
 pub mod RoundTrip
+pub mod ReadTextLaws
 pub mod WriterLaws
 pub mod AgainLaws
 pub mod RefusedLaws

@@ -6,7 +6,7 @@ use lib.ListN.{length-append}
 use borrow.Author.Tests.{eq-eqb, ne-eqb}
 use borrow.Author.Needs.{needs}
 use Rattle.rules.specs.Text.{lineFeed, numeral, line}
-use Rattle.report.proofs.LengthLaws.{numeral-length}
+use Rattle.rules.proofs.LengthLaws.{numeral-length}
 use Rattle.report.proofs.put_listing.Statement.{statement}
 use Rattle.report.proofs.put_listing.Tie as tie
 

@@ -8,14 +8,15 @@ use native.Mathlib.Omega.{arith}
 use lib.Dec.{eqb}
 use lib.ListN.{length, replicate}
 use borrow.Author.Needs.{needs}
+use Rattle.model.specs.Validity.{Valid}
 use Rattle.model.proofs.BufferLaws.{filled-whole}
 use Rattle.rules.specs.Text.{numeral, line}
 use Rattle.rules.specs.Reading.{reading}
 use Rattle.rules.specs.declared.Reading.{Reading}
+use Rattle.rules.proofs.ReadTextLaws.{read-valid}
 use Rattle.writer.proofs.OverlayLaws.{laid-length, zeros-laid}
 use Rattle.report.specs.Listing.{listingOf, listing}
 use Rattle.report.specs.Report.{reportLength, reported, ReportMeaning}
-use Rattle.report.proofs.LengthLaws.{read-valid}
 use Rattle.report.proofs.ReportLaws.{report-fits, report-short, report-meaning}
 use Rattle.report.proofs.report.Statement.{statement}
 use Rattle.report.proofs.report.Tie as tie
@@ -24,6 +25,10 @@ use Rattle.report.proofs.report.Tie as tie
 listed : (text : List ℕ) (r : Reading) → r ≡ reading text → cond (eqb (r .outcome) 0) (listingOf (r .set)) (line "refused=" (numeral (r .outcome) ∷ [])) ≡ listing text
 unfolding listing
 listed text r e = rw e
+
+-- a set that reading gave is valid
+given-valid : (text : List ℕ) (r : Reading) → r ≡ reading text → r .outcome ≡ 0 → Valid (r .set)
+given-valid text r e z = rw e (read-valid text (sym (ap (λ (q : Reading). q .outcome) e) ∙ z))
 
 -- the definitions' length and buffer have their meaning
 answers : (text : List ℕ) (room r : ℕ) (out : List ℕ) → r ≡ reportLength text room → out ≡ reported text room
@@ -34,7 +39,7 @@ read-requires : tie.Need-read-requires
 read-requires c κs = search needs
 
 put-listing-requires : tie.Need-put-listing-requires
-put-listing-requires c κs = read-valid (c .before .before .before .before .args .text .now) (c .before .read .result) (c .before .read .ensures)
+put-listing-requires c κs = given-valid (c .before .before .before .before .args .text .now) (c .before .read .result) (c .before .read .ensures)
 
 fill-from-requires : tie.Need-fill-from-requires
 fill-from-requires c κs = search needs
