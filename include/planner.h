@@ -5,7 +5,8 @@
  * - a buffer that is written (plan, table of a build, out) overlaps no other argument. Buffers that are only read may overlap each other, and never change;
  * - no other thread writes any of the buffers during the call;
  * - PLANNER_STACK bytes of stack.
- * Nothing else is asked: any bytes, lengths and numbers end in an answer or in one numbered refusal. */
+ * Nothing else is asked: any bytes, lengths and numbers end in an answer or in one numbered refusal. An entry answers for the number that arrives: C cuts a cost bound above 65,535 down to
+ * 16 bits and a step limit to 32 before the call. Nothing is kept between calls, so calls with buffers of their own may run at the same time. */
 #ifndef PLANNER_H
 #define PLANNER_H
 
