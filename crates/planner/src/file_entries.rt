@@ -5,13 +5,14 @@ ghost use mathlib.Core.Path.{_≡_};
 ghost use Prim.Native.Nat.{_/_, _%_, _<_};
 ghost use lib.ListN.{length};
 ghost use Rattle.rules.specs.Reading.{reading};
+ghost use Rattle.rules.specs.Meaning.{JudgeMeaning};
 ghost use Rattle.planner.specs.PackedLength.{packedLength};
 ghost use Rattle.planner.specs.Rewriting.{rewritten, rewrittenBuffer, packedRewritten, RewriteMeaning};
 
 // Judges a rule file for C: 1 to 4, or 0.
 #[no_mangle]
 pub extern "C" fn planner_read(text: &[u8]) -> u8
-    ensures { λ r. ⌜ r ≡ reading (now (text .entry)) .outcome ⌝ }
+    ensures { λ r. ⌜ (r ≡ reading (now (text .entry)) .outcome) × JudgeMeaning (now (text .entry)) r ⌝ }
 {
     let judged = reader::read(text);
     judged.outcome

@@ -8,6 +8,7 @@ use rules::Reading;
 ghost use mathlib.Core.Path.{_≡_};
 ghost use Rattle.model.specs.Rules.{blankRule, emptySet};
 ghost use Rattle.rules.specs.Reading.{fileLines, reading};
+ghost use Rattle.rules.specs.Meaning.{ReadMeaning};
 ghost use Rattle.reader.specs.Found.{found};
 
 // What the functions of the reader find at a place of the text: a refusal's number, or with outcome 0 a value and the place after it.
@@ -102,7 +103,7 @@ fn outcome_of(text: &[u8], file: FoundSet) -> u8
 
 // Reads a rule file: its set, or the first fault's number and the empty set.
 pub fn read(text: &[u8]) -> Reading
-    ensures { λ r. ⌜ r ≡ reading (now (text .entry)) ⌝ }
+    ensures { λ r. ⌜ (r ≡ reading (now (text .entry))) × ReadMeaning (now (text .entry)) r ⌝ }
 {
     let file = lines::file_lines(text);
     let set = file.set;

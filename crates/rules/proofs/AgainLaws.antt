@@ -16,7 +16,7 @@ use Rattle.rules.proofs.RoundTrip.{written-read, read-written}
 use Rattle.rules.proofs.WriterLaws.{writes-iff}
 
 -- what is written, if nothing is refused, is the file
-file-text : (set : RuleSet) (room : ℕ) → written set room .outcome ≡ 0 → writtenText set room ≡ render set
+pub file-text : (set : RuleSet) (room : ℕ) → written set room .outcome ≡ 0 → writtenText set room ≡ render set
 unfolding written writtenText
 file-text set room e = rw (eq-eqb (firstRefusal (writeCauses set room)) 0 e)
 

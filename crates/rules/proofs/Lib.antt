@@ -17,5 +17,6 @@ pub mod WriterLaws
 pub mod AgainLaws
 pub mod RefusedLaws
 pub mod FaultLaws
+pub mod MeaningLaws
 pub mod LengthLaws
 pub mod LongestFile

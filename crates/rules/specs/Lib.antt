@@ -3,3 +3,4 @@ pub mod File
 pub mod Reading
 pub mod Writing
 pub mod Faults
+pub mod Meaning

@@ -6,11 +6,12 @@ use model::buffers::fill_from;
 use rules::Written;
 ghost use mathlib.Core.Path.{_≡_};
 ghost use lib.ListN.{length};
+ghost use Rattle.rules.specs.Meaning.{WriteMeaning};
 ghost use Rattle.rules.specs.Writing.{written, writtenBuffer};
 
 // Writes the file of a set into the text, and zeros after it; zeros alone when refused.
 pub fn write(set: RuleSet, text: &mut [u8]) -> Written
-    ensures { λ r. ⌜ (r ≡ written set (length (now (text .entry)))) × (now (text .exit) ≡ writtenBuffer set (length (now (text .entry)))) ⌝ }
+    ensures { λ r. ⌜ (r ≡ written set (length (now (text .entry)))) × (now (text .exit) ≡ writtenBuffer set (length (now (text .entry)))) × WriteMeaning set (length (now (text .entry))) r (now (text .exit)) ⌝ }
 {
     if !model::is_valid(set) {
         fill_from(text, 0, 0);

@@ -1,10 +1,20 @@
--- `reader::read` meets its contract: with an outcome the set is empty, and without one it is the set that was read.
+-- `reader::read` meets its contract: with an outcome the set is empty, and without one it is the set that was read; a reading has its meaning.
 -- Assumes nothing.
-use mathlib.Core.Path.{sym, _∙_}
+use mathlib.Core.Path.{_≡_, sym, subst, _∙_}
+use mathlib.Core.List.{List}
+use Prim.Native.Nat.{ℕ}
 use borrow.Author.Needs.{needs}
+use Rattle.rules.specs.Reading.{reading}
+use Rattle.rules.specs.Meaning.{ReadMeaning}
+use Rattle.rules.specs.declared.Reading.{Reading}
+use Rattle.rules.proofs.MeaningLaws.{read-meaning}
 use Rattle.reader.proofs.OutcomeLaws.{set-read, none-read}
 use Rattle.reader.proofs.read.Statement.{statement}
 use Rattle.reader.proofs.read.Tie as tie
+
+-- the definition's reading has its meaning
+answers : (text : List ℕ) (r : Reading) → r ≡ reading text → (r ≡ reading text) × ReadMeaning text r
+answers text r e = (e, subst (ReadMeaning text) (sym e) (read-meaning text))
 
 file-lines-requires : tie.Need-file-lines-requires
 file-lines-requires c κs = search needs
@@ -19,10 +29,10 @@ returns : tie.Need-returns
 returns c =
     let text = c .before .before .before .before .before .before .args .text .now in
     let judged = c .before .outcome-of .ensures in
-    rw (judged, c .before .before .empty-set .ensures) (sym (none-read text (λ e. c .if1 .taken (judged ∙ e))))
+    answers text _ (rw (judged, c .before .before .empty-set .ensures) (sym (none-read text (λ e. c .if1 .taken (judged ∙ e)))))
 
 returns-2 : tie.Need-returns-2
-returns-2 c = sym (set-read _ _ _ _ (c .before .before .before .before .file-lines .ensures) (sym (c .before .outcome-of .ensures) ∙ c .if1 .left))
+returns-2 c = answers _ _ (sym (set-read _ _ _ _ (c .before .before .before .before .file-lines .ensures) (sym (c .before .outcome-of .ensures) ∙ c .if1 .left)))
 
 pub read-spec : {M : Type 1} → statement M
 read-spec = tie.close (tie.spec file-lines-requires empty-set-requires outcome-of-requires returns returns-2)

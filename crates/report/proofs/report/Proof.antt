@@ -39,7 +39,7 @@ read-requires : tie.Need-read-requires
 read-requires c κs = search needs
 
 put-listing-requires : tie.Need-put-listing-requires
-put-listing-requires c κs = given-valid (c .before .before .before .before .args .text .now) (c .before .read .result) (c .before .read .ensures)
+put-listing-requires c κs = given-valid (c .before .before .before .before .args .text .now) (c .before .read .result) (c .before .read .ensures .0)
 
 fill-from-requires : tie.Need-fill-from-requires
 fill-from-requires c κs = search needs
@@ -53,7 +53,7 @@ returns c =
     let read = file .before .before in
     let s = read .before .before .before .args in
     let text = s .text .now in
-    let laid = rw (listed text (read .read .result) (read .read .ensures)) at (file .put-listing .ensures) in
+    let laid = rw (listed text (read .read .result) (read .read .ensures .0)) at (file .put-listing .ensures) in
     let same = laid-length laid in
     let w = report-short text (length (s .out .now)) (omega arith) in
     answers text (length (s .out .now)) _ _ (sym (w .0)) (c .before .before .fill-from .ensures ∙ filled-whole 0 _ ∙ ap (λ n. replicate n 0) same ∙ sym (w .1))
@@ -70,7 +70,7 @@ returns-2 c =
     let read = file .before .before in
     let s = read .before .before .before .args in
     let text = s .text .now in
-    let laid = rw (listed text (read .read .result) (read .read .ensures)) at (file .put-listing .ensures) in
+    let laid = rw (listed text (read .read .result) (read .read .ensures .0)) at (file .put-listing .ensures) in
     let same = laid-length laid in
     let w = report-fits text (length (s .out .now)) (omega arith) in
     answers text (length (s .out .now)) _ _ (omega (arith, laid .place, w .0)) (c .before .before .fill-from2 .ensures ∙ zeros-laid laid (omega arith) ∙ sym (w .1))

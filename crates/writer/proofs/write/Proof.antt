@@ -1,8 +1,8 @@
--- `writer::write` meets its contract. Each way out has one cause or none, and zeros after what was laid; a valid set's file is short enough for `put_file`.
+-- `writer::write` meets its contract. Each way out has one cause or none, and zeros after what was laid; a valid set's file is short enough for `put_file`. What is left has its meaning.
 -- Assumes nothing.
-use mathlib.Core.Path.{_≡_, refl, ap, _∙_}
+use mathlib.Core.Path.{_≡_, refl, sym, ap, subst, _∙_}
 use mathlib.Core.Bool.{true, false}
-use mathlib.Core.List.{[]}
+use mathlib.Core.List.{List, []}
 use Prim.Native.Nat.{ℕ, _≤_, _<_}
 use native.Mathlib.Omega.{arith}
 use lib.ListN.{length}
@@ -15,7 +15,10 @@ use Rattle.model.proofs.LoopLaws.{failed, passed}
 use Rattle.model.proofs.ValidityLaws.{valid-iff}
 use Rattle.rules.specs.File.{render}
 use Rattle.rules.specs.Writing.{writeCauses, writtenText, written, writtenBuffer}
+use Rattle.rules.specs.Meaning.{WriteMeaning}
+use Rattle.rules.specs.declared.Written.{Written}
 use Rattle.rules.proofs.LengthLaws.{render-bound}
+use Rattle.rules.proofs.MeaningLaws.{write-meaning}
 use Rattle.writer.proofs.OverlayLaws.{laid-length, zeros-whole, zeros-laid}
 use Rattle.writer.proofs.write.Statement.{statement}
 use Rattle.writer.proofs.write.Tie as tie
@@ -35,6 +38,10 @@ module _ (set : RuleSet) (room : ℕ) where
   unfolding written writtenBuffer writtenText writeCauses
   fits end t e h = rw (t, le-ltb room (length (render set)) (omega arith), e) (refl, refl)
 
+  -- which has its meaning
+  answers : (r : Written) (out : List ℕ) → r ≡ written set room → out ≡ writtenBuffer set room → (r ≡ written set room) × (out ≡ writtenBuffer set room) × WriteMeaning set room r out
+  answers r out e t = (e, t, subst (WriteMeaning set room r) (sym t) (subst (λ q. WriteMeaning set room q (writtenBuffer set room)) (sym e) (write-meaning set room)))
+
 is-valid-requires : tie.Need-is-valid-requires
 is-valid-requires c κs = search needs
 
@@ -49,7 +56,7 @@ returns c =
     let branch = c .before .before .before .before in
     let s = branch .before .before .before .args in
     let w = not-valid (s .set) (length (s .text .now)) (failed (branch .before .is-valid .ensures) (branch .if1 .taken)) in
-    (w .0, c .before .before .fill-from .ensures ∙ zeros-whole _ ∙ w .1)
+    answers (s .set) (length (s .text .now)) _ _ (w .0) (c .before .before .fill-from .ensures ∙ zeros-whole _ ∙ w .1)
 
 put-file-requires : tie.Need-put-file-requires
 put-file-requires c κs =
@@ -71,7 +78,7 @@ returns-2 c =
     let s = branch .before .before .before .args in
     let same = laid-length (file .put-file .ensures) in
     let w = no-room (s .set) (length (s .text .now)) (passed (branch .before .is-valid .ensures) (branch .if1 .left)) (omega arith) in
-    (w .0, c .before .before .fill-from2 .ensures ∙ zeros-whole _ ∙ ap (λ n. padded n 0 []) same ∙ w .1)
+    answers (s .set) (length (s .text .now)) _ _ (w .0) (c .before .before .fill-from2 .ensures ∙ zeros-whole _ ∙ ap (λ n. padded n 0 []) same ∙ w .1)
 
 fill-from-requires-3 : tie.Need-fill-from-requires-3
 fill-from-requires-3 c κs = search needs
@@ -87,7 +94,7 @@ returns-3 c =
     let laid = file .put-file .ensures in
     let same = laid-length laid in
     let w = fits (s .set) (length (s .text .now)) (file .put-file .result) (passed (branch .before .is-valid .ensures) (branch .if1 .left)) (omega arith) (omega arith) in
-    (w .0, c .before .before .fill-from3 .ensures ∙ zeros-laid laid (omega arith) ∙ w .1)
+    answers (s .set) (length (s .text .now)) _ _ (w .0) (c .before .before .fill-from3 .ensures ∙ zeros-laid laid (omega arith) ∙ w .1)
 
 pub write-spec : {M : Type 1} → statement M
 write-spec =

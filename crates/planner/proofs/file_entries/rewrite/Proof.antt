@@ -51,7 +51,7 @@ returns c =
     let text = s .args .text .now in
     let room = length (s .args .out .now) in
     let zeros = c .before .before .fill-from .ensures ∙ filled-whole 0 (s .args .out .now) in
-    with-meaning text room _ (file .read .ensures) _ (refused text room _ (file .read .ensures) _ (c .before .before .before .before .if1 .taken) zeros)
+    with-meaning text room _ (file .read .ensures .0) _ (refused text room _ (file .read .ensures .0) _ (c .before .before .before .before .if1 .taken) zeros)
 
 write-requires : tie.Need-write-requires
 write-requires c κs = search needs
@@ -66,7 +66,7 @@ returns-2 c =
     let text = s .args .text .now in
     let room = length (s .args .out .now) in
     let out = c .before .before .write .ensures in
-    with-meaning text room _ (file .read .ensures) _ (read text room _ (file .read .ensures) _ (c .before .before .before .before .if1 .left) _ (out .0) (out .1))
+    with-meaning text room _ (file .read .ensures .0) _ (read text room _ (file .read .ensures .0) _ (c .before .before .before .before .if1 .left) _ (out .0) (out .1))
 
 pub rewrite-spec : {M : Type 1} → statement M
 rewrite-spec = tie.close (tie.spec read-requires fill-from-requires same-length returns write-requires same-length-2 returns-2)

@@ -37,7 +37,7 @@ returns c =
     let s = file .before .before .before .before .args in
     let text = s .rules .now in
     let room = length (s .out .now) in
-    let e = ap (λ (r : Reading). r .outcome) (file .read .ensures) in
+    let e = ap (λ (r : Reading). r .outcome) (file .read .ensures .0) in
     let refused = macro-refused text (s .moves .now) (λ z. branch .if1 .taken (e ∙ z)) in
     answers text (s .moves .now) room _ _ (e ∙ sym (ap (λ (a : MacroAnswer). a .outcome) refused))
     (zeroed .fill-from .ensures ∙ filled-whole 0 (s .out .now) ∙ sym (blank-buffer room) ∙ sym (ap (λ (a : MacroAnswer). macroBuffer room (a .result)) refused))
@@ -60,8 +60,8 @@ returns-2 c =
     let s = file .before .before .before .before .args in
     let text = s .rules .now in
     let room = length (s .out .now) in
-    let e = ap (λ (r : Reading). r .outcome) (file .read .ensures) in
-    let same = ap (λ (r : Reading). r .set) (file .read .ensures) in
+    let e = ap (λ (r : Reading). r .outcome) (file .read .ensures .0) in
+    let same = ap (λ (r : Reading). r .set) (file .read .ensures .0) in
     let given = made .macro-of .ensures .0 ∙ ap (λ set. macroAnswer set (s .moves .now)) same ∙ sym (macro-read text (s .moves .now) (sym e ∙ branch .if1 .left)) in
     answers text (s .moves .now) room _ _ (ap (λ (a : MacroAnswer). a .outcome) given) (put .put-macro .ensures ∙ ap (λ (a : MacroAnswer). macroBuffer room (a .result)) given)
 

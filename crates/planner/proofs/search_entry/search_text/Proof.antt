@@ -49,7 +49,7 @@ returns c =
     let s = file .before .before .before .before .before .before in
     let blank = c .before .before .fill-from .ensures ∙ filled-whole noMove (s .args .plan .now) in
     text-found (s .args .text .now) (queryOf s) _
-    (refused (s .args .text .now) (queryOf s) (file .read .result) (file .read .ensures) (c .before .before .before .before .if1 .taken) _ blank)
+    (refused (s .args .text .now) (queryOf s) (file .read .result) (file .read .ensures .0) (c .before .before .before .before .if1 .taken) _ blank)
 
 search-requires : tie.Need-search-requires
 search-requires c κs = search needs
@@ -62,7 +62,7 @@ returns-2 c =
     let s = c .before .before .before .before .before .before .before .before .before .before .before in
     let file = c .before .before .before .before .before in
     text-found (s .args .text .now) (queryOf s) _
-    (read (s .args .text .now) (queryOf s) (file .read .result) (file .read .ensures) (c .before .before .before .before .if1 .left) _ (c .before .before .search .ensures .0))
+    (read (s .args .text .now) (queryOf s) (file .read .result) (file .read .ensures .0) (c .before .before .before .before .if1 .left) _ (c .before .before .search .ensures .0))
 
 pub search-text-spec : {M : Type 1} → statement M
 search-text-spec = tie.close (tie.spec read-requires fill-from-requires same-length returns search-requires same-length-2 returns-2)

@@ -35,7 +35,7 @@ returns c =
     let s = file .before .before .before .args in
     let text = s .rules .now in
     let size = length (s .table .now) in
-    let e = ap (λ (r : Reading). r .outcome) (file .read .ensures) in
+    let e = ap (λ (r : Reading). r .outcome) (file .read .ensures .0) in
     let w = build-refused text (s .reach) size (λ z. branch .if1 .taken (e ∙ z)) in
     answers text (s .reach) size _ _ (e ∙ sym (w .0)) (zeroed .fill-from .ensures ∙ filled-whole 0 (s .table .now) ∙ sym (w .1))
 
@@ -53,8 +53,8 @@ returns-2 c =
     let s = file .before .before .before .args in
     let text = s .rules .now in
     let size = length (s .table .now) in
-    let e = ap (λ (r : Reading). r .outcome) (file .read .ensures) in
-    let same = ap (λ (r : Reading). r .set) (file .read .ensures) in
+    let e = ap (λ (r : Reading). r .outcome) (file .read .ensures .0) in
+    let same = ap (λ (r : Reading). r .set) (file .read .ensures .0) in
     let w = build-read text (s .reach) size (sym e ∙ branch .if1 .left) in
     answers text (s .reach) size _ _ (built .build-table .ensures .0 ∙ ap (λ set. buildOutcome set (s .reach) size) same ∙ sym (w .0))
     (built .build-table .ensures .1 ∙ ap (λ set. builtBuffer set (s .reach) size) same ∙ sym (w .1))

@@ -22,7 +22,7 @@ returns : tie.Need-returns
 returns c =
     let file = c .before .before in
     let s = file .before .before .before .args in
-    let e = ap (λ (r : Reading). r .outcome) (file .read .ensures) in
+    let e = ap (λ (r : Reading). r .outcome) (file .read .ensures .0) in
     answers (s .rules .now) (s .reach) (s .table .now) _ (e ∙ sym (check-refused (s .rules .now) (s .reach) (s .table .now) (λ z. c .if1 .taken (e ∙ z))))
 
 check-table-requires : tie.Need-check-table-requires
@@ -33,8 +33,8 @@ returns-2 c =
     let branch = c .before in
     let file = branch .before .before in
     let s = file .before .before .before .args in
-    let e = ap (λ (r : Reading). r .outcome) (file .read .ensures) in
-    let same = ap (λ (r : Reading). r .set) (file .read .ensures) in
+    let e = ap (λ (r : Reading). r .outcome) (file .read .ensures .0) in
+    let same = ap (λ (r : Reading). r .set) (file .read .ensures .0) in
     let w = check-read (s .rules .now) (s .reach) (s .table .now) (sym e ∙ branch .if1 .left) in
     answers (s .rules .now) (s .reach) (s .table .now) _ (c .check-table .ensures .0 ∙ ap (λ set. checkOutcome set (s .reach) (s .table .now)) same ∙ sym w)
 

@@ -36,7 +36,7 @@ returns : tie.Need-returns
 returns c =
     let file = c .before .before .before in
     let s = file .before .before .args in
-    let e = ap (λ (r : Reading). r .outcome) (file .read .ensures) in
+    let e = ap (λ (r : Reading). r .outcome) (file .read .ensures .0) in
     let refused = size-refused (s .rules .now) (s .reach) (λ z. c .before .if1 .taken (e ∙ z)) in
     answers (s .rules .now) (s .reach) _ (record { outcome = file .read .result .outcome; length = 0 }) ((λ i. record { outcome = e i; length = 0 }) ∙ sym refused) (omega arith)
 
@@ -57,8 +57,8 @@ returns-2 c =
     let told = c .before in
     let file = told .before .before .before in
     let s = file .before .before .args in
-    let e = ap (λ (r : Reading). r .outcome) (file .read .ensures) in
-    let same = ap (λ (r : Reading). r .set) (file .read .ensures) in
+    let e = ap (λ (r : Reading). r .outcome) (file .read .ensures .0) in
+    let same = ap (λ (r : Reading). r .set) (file .read .ensures .0) in
     let w = size-read (s .rules .now) (s .reach) (sym e ∙ told .before .if1 .left) in
     answers (s .rules .now) (s .reach) _ (told .table-size .result) (told .table-size .ensures .0 ∙ ap (λ set. tableSize set (s .reach)) same ∙ sym w) refl
 
