@@ -3,10 +3,10 @@
  * Every byte argument is a pointer and then its length in bytes. What a caller owes, and nothing can check:
  * - each pointer is to as many bytes as its length says; NULL only with length 0; a length of at most PTRDIFF_MAX;
  * - a buffer that is written (plan, table of a build, out) overlaps no other argument. Buffers that are only read may overlap each other, and never change;
- * - no other thread writes any of the buffers during the call;
+ * - during the call no other thread writes any of the buffers, nor reads one that is written;
  * - PLANNER_STACK bytes of stack.
- * Nothing else is asked: any bytes, lengths and numbers end in an answer or in one numbered refusal. An entry answers for the number that arrives: C cuts a cost bound above 65,535 down to
- * 16 bits and a step limit to 32 before the call. Nothing is kept between calls, so calls with buffers of their own may run at the same time. */
+ * Nothing else is asked: any bytes, lengths and numbers end in an answer or in one numbered refusal. But C cuts a number down to its parameter's type before the call: a max_cost of 65545
+ * arrives as 9, and is answered as 9. Nothing is kept between calls: threads may call at the same time, each with its own buffers to write. */
 #ifndef PLANNER_H
 #define PLANNER_H
 
