@@ -4,7 +4,10 @@ use std::panic::resume_unwind;
 use std::thread::{scope, Builder};
 
 /// The header's PLANNER_STACK: what a call needs.
-pub const PLANNER_STACK: usize = 262_144;
+pub fn planner_stack() -> usize {
+    let defined = include_str!("../../include/planner.h").lines().find_map(|line| line.strip_prefix("#define PLANNER_STACK "));
+    defined.and_then(|number| number.parse().ok()).expect("PLANNER_STACK in include/planner.h")
+}
 
 /// What the tests run in, oracle included.
 pub const TEST_STACK: usize = 524_288;

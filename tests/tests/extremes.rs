@@ -3,7 +3,7 @@
 use planner_tests::calls::{Call, Query};
 use planner_tests::compare::{check, compare, compare_in, Tally};
 use planner_tests::oracle::{expected, file, Judged};
-use planner_tests::stack::{within, PLANNER_STACK, TEST_STACK};
+use planner_tests::stack::{planner_stack, within, TEST_STACK};
 
 const E: &str = "positions=2\nsizes=2,2\nrules=2\ncost=1\nif=x1,x2\nthen=0,x2\ncost=1\nif=x1,x2\nthen=x1,0\n";
 
@@ -180,6 +180,6 @@ fn each_call_within_its_stack() {
     ];
     for call in calls {
         let answer = expected(&call);
-        within(PLANNER_STACK, || check(&call, &answer));
+        within(planner_stack(), || check(&call, &answer));
     }
 }
