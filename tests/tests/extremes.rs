@@ -163,6 +163,17 @@ fn the_largest_table_compared() {
 }
 
 #[test]
+fn steps_beyond_16_bits() {
+    // both rules of E run in every state: with nothing marked, 2^17 - 1 sequences of at most 16 rules are visited
+    let mut tally = Tally::default();
+    for (step_limit, outcome, steps) in [(65_535, 16, 65_535), (65_536, 16, 65_536), (131_070, 16, 131_070), (131_071, 0, 131_071), (u32::MAX, 0, 131_071)] {
+        let query = Query { start: vec![1, 1], goal: vec![0, 0], max_moves: 16, max_cost: 65535, step_limit };
+        let answer = compare(&Call::Search { rules: E.as_bytes().to_vec(), table: vec![255; 14], reach: 2, query, plan_length: 16 }, &mut tally);
+        assert_eq!((answer.outcome(), answer.steps()), (outcome, steps));
+    }
+}
+
+#[test]
 fn each_call_within_its_stack() {
     let (rules, longest) = (numbered().into_bytes(), longest().into_bytes());
     let all_kept = vec![255; 61_568];
