@@ -14,7 +14,7 @@ use Rattle.rules.specs.Reading.{reading}
 use Rattle.rules.specs.Writing.{written, writtenBuffer}
 use Rattle.rules.specs.declared.Written.{Written}
 use Rattle.rules.proofs.RoundTrip.{accepted-iff, read-written}
-use Rattle.rules.proofs.WriterLaws.{writes-iff, short-iff}
+use Rattle.rules.proofs.WriterLaws.{writes-iff, invalid-iff, short-iff}
 use Rattle.rules.proofs.AgainLaws.{file-again}
 use Rattle.rules.proofs.RefusedLaws.{reading-bound, written-refused}
 use Rattle.rules.proofs.LengthLaws.{render-bound}
@@ -47,6 +47,7 @@ module _ (text : List ℕ) (room : ℕ) where
         tooLong = (λ e. absurd (omega (arith, e, reading-bound text)), λ w. absurd (n (accepted-iff text .1 (w .0))));
         asRead = λ k _ _. (λ e. e, λ e. e);
         noText = λ _. (refl, refl);
+        never7 = λ e. omega (arith, e, reading-bound text);
       }
 
   module _ (taken : reading text .outcome ≡ 0) where
@@ -83,6 +84,7 @@ module _ (text : List ℕ) (room : ℕ) where
           tooLong = (λ e. (accepted-iff text .0 taken, long-iff .0 e), λ w. long-iff .1 (w .1));
           asRead = λ k l h. (λ e. absurd (not-readers k l h e), λ e. absurd (omega (arith, e, taken)));
           noText = written-refused set room;
+          never7 = λ e. invalid-iff set room .0 e (read-written text set (read-as text taken) .0);
         }
 
   -- what is left so has its meaning

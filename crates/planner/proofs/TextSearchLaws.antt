@@ -1,6 +1,6 @@
 -- The search of a rule text: what it means, what it leaves without a plan, and that its answer fits the packing. 7 is never its outcome, since a set that was read is valid.
 -- Assumes nothing.
-use mathlib.Core.Path.{_≡_, refl, sym, ap, subst}
+use mathlib.Core.Path.{_≡_, refl, sym, ap, subst, _∙_}
 use mathlib.Core.Logic.{_≢_, ⊎-elim}
 use mathlib.Core.List.{List}
 use Prim.Native.Nat.{ℕ, _<_}
@@ -56,6 +56,15 @@ module _ (text : List ℕ) (query : Query) where
       (searched-blank (reading text .set) query)
       (λ _. (refl, refl, refl))
 
+  -- no text gives 7
+  never-invalid : searchedText text query .answer .outcome ≢ 7
+  unfolding textRefused
+  never-invalid e =
+      let outcome : Searched → ℕ = λ found. found .answer .outcome in
+      ⊎-elim (λ h. search-meaning (reading text .set) query .notValid .0 (sym (ap outcome (read-text h)) ∙ e) (read-valid text h))
+      (λ n. omega (arith, e, ap outcome (refused-text n), reading-bound text))
+      (equal? (reading text .outcome) 0)
+
   -- ── What it means ──────────────────────────────────────────────────────────────────────────────
 
   pub text-search-meaning : TextSearchMeaning text query (searchedText text query)
@@ -63,16 +72,9 @@ module _ (text : List ℕ) (query : Query) where
       record {
         refusedText = refused-text;
         readText = λ h. subst (SearchMeaning (reading text .set) query) (sym (read-text h)) (search-meaning (reading text .set) query);
+        never7 = never-invalid;
       }
 
   -- the same of what is equal
   pub text-found : (found : Searched) → searchedText text query ≡ found → (searchedText text query ≡ found) × TextSearchMeaning text query found
   text-found found e = (e, subst (TextSearchMeaning text query) e text-search-meaning)
-
-  -- no text gives 7
-  pub never-invalid : searchedText text query .answer .outcome ≢ 7
-  unfolding textRefused
-  never-invalid e =
-      ⊎-elim (λ h. text-search-meaning .readText h .notValid .0 e (read-valid text h))
-      (λ n. omega (arith, e, ap (λ (found : Searched). found .answer .outcome) (refused-text n), reading-bound text))
-      (equal? (reading text .outcome) 0)

@@ -36,3 +36,5 @@ pub record RewriteMeaning (text : List ℕ) (room : ℕ) (answer : Written) (buf
   pub asRead : (n : ℕ) → 1 ≤ n → n ≤ 4 → (answer .outcome ≡ n) ↔ (reading text .outcome ≡ n)
   -- when refused, no length and zeros throughout
   pub noText : answer .outcome ≢ 0 → (answer .length ≡ 0) × (buffer ≡ replicate room 0)
+  -- a set that was read is valid
+  pub never7 : answer .outcome ≢ 7

@@ -14,3 +14,5 @@ pub record TextSearchMeaning (text : List ℕ) (query : Query) (found : Searched
   pub refusedText : reading text .outcome ≢ 0 → found ≡ textRefused (reading text .outcome) (query .planSize)
   -- of any other what a search of its set means
   pub readText : reading text .outcome ≡ 0 → SearchMeaning (reading text .set) query found
+  -- a set that was read is valid
+  pub never7 : found .answer .outcome ≢ 7
