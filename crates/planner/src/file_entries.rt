@@ -1,12 +1,12 @@
 // The C entries of reader and writer, and the rewriting on its own.
+use crate::packing::pack_length;
 use model::buffers::fill_from;
 use rules::Written;
 ghost use mathlib.Core.Path.{_≡_};
-ghost use Prim.Native.Nat.{_/_, _%_, _<_};
+ghost use Prim.Native.Nat.{_/_, _%_};
 ghost use lib.ListN.{length};
 ghost use Rattle.rules.specs.Reading.{reading};
 ghost use Rattle.rules.specs.Meaning.{JudgeMeaning};
-ghost use Rattle.planner.specs.PackedLength.{packedLength};
 ghost use Rattle.planner.specs.Rewriting.{rewritten, rewrittenBuffer, packedRewritten, RewriteMeaning};
 
 // Judges a rule file for C: 1 to 4, or 0.
@@ -32,14 +32,6 @@ pub fn rewrite(text: &[u8], out: &mut [u8]) -> Written
         };
     }
     writer::write(file.set, out)
-}
-
-// An outcome and a length as one number.
-fn pack_length(outcome: u8, length: usize) -> u64
-    requires { ⌜ length < 72057594037927936 ⌝ }
-    ensures { λ r. ⌜ r ≡ packedLength outcome length ⌝ }
-{
-    (outcome as u64) + 256 * (length as u64)
 }
 
 // The same for C: outcome and length are packed.

@@ -1,4 +1,5 @@
 // The C entries on tables. Each takes the rule text in place of a set; 1 to 4 of the text come before all else.
+use crate::packing::pack_length;
 use model::buffers::fill_from;
 use pruning::build_table;
 use pruning::check_table;
@@ -19,7 +20,7 @@ pub extern "C" fn planner_table_size(rules: &[u8], reach: usize) -> u64
         return file.outcome as u64;
     }
     let size = table_size(file.set, reach);
-    (size.outcome as u64) + 256 * (size.length as u64)
+    pack_length(size.outcome, size.length)
 }
 
 // Builds the table, or zeroes it.

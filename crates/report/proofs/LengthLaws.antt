@@ -10,17 +10,17 @@ use lib.ListN.{length, length-append}
 use borrow.Author.Tests.{eqb-true, eq-eqb}
 use Rattle.theory.specs.Lists.{_∈_, keep, numbersFrom}
 use Rattle.theory.specs.Sequences.{Sequence, Numbered}
-use Rattle.theory.proofs.ListLaws.{length-numbersFrom}
+use Rattle.theory.proofs.ListLaws.{in-getD, length-numbersFrom}
 use Rattle.model.specs.declared.RuleSet.{RuleSet}
 use Rattle.rules.specs.Text.{comma, numeral, commaList, line}
 use Rattle.rules.specs.Reading.{reading}
-use Rattle.rules.proofs.LengthLaws.{numeral-length, line-length}
+use Rattle.rules.proofs.LengthLaws.{numeral-length, line-length, flat-length}
 use Rattle.rules.proofs.ReadTextLaws.{read-valid}
 use Rattle.tables.specs.Table.{tableEntries, sequenceAt, kept, builtEntry, builtTable}
 use Rattle.tables.proofs.CountLaws.{count-prefix}
 use Rattle.tables.proofs.TableLaws.{index-sequence, sequence-index, accepted-iff, built-entry, built-least, built-accepted}
 use Rattle.report.specs.Listing.{listedReach, sequenceItems, markedIndices, markLines, listingOf, listing}
-use Rattle.report.proofs.ListLaws.{keep-length, flat-length}
+use Rattle.report.proofs.ListLaws.{keep-length}
 use Rattle.report.proofs.MarkLaws.{marked-entry-iff}
 
 -- ── Numbers, sequences and lines ─────────────────────────────────────────────────────────────────
@@ -77,7 +77,7 @@ module _ (set : RuleSet) (few : set .count ≤ 31) where
         numeral-length listedReach .2 (omega arith),
         numeral-length (set .count) .1 (omega arith),
         numeral-length (length (markedIndices set)) .0,
-        flat-length (markLines set) 21 (markedIndices set) mark-length,
+        flat-length (markLines set) 0 21 (markedIndices set) (λ k h. mark-length _ (in-getD (markedIndices set) k 0 h)),
         marked-count,
       ))
 

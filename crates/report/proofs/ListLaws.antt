@@ -3,9 +3,9 @@
 use mathlib.Core.Path.{_≡_, refl, ap, ap₂}
 use mathlib.Core.Bool.{Bool, true, false, cond}
 use mathlib.Core.List.{List, [], _∷_, _++_, List·Memᴰ·tail}
-use Prim.Native.Nat.{ℕ, zero, suc, _*_, _≤_, _<_}
+use Prim.Native.Nat.{ℕ, zero, suc, _≤_, _<_}
 use native.Mathlib.Omega.{arith}
-use lib.ListN.{length, length-append}
+use lib.ListN.{length}
 use Rattle.theory.specs.Lists.{_∈_, keepIf, keep, Pairwise, flat, numbersFrom}
 use Rattle.theory.proofs.ListLaws.{here, of-numbersFrom}
 
@@ -36,8 +36,3 @@ keep-length p (x ∷ l) = go (p x) (keep-length p l)
     go : (b : Bool) → length (keep p l) ≤ length l → length (keepIf b x (keep p l)) ≤ suc (length l)
     go true h = omega arith
     go false h = omega arith
-
--- each element of a list gives at most b elements
-pub flat-length : {A B : Type 0} (f : A → List B) (b : ℕ) (l : List A) → ((a : A) → a ∈ l → length (f a) ≤ b) → length (flat f l) ≤ length l * b
-flat-length f b [] h = omega arith
-flat-length f b (x ∷ l) h = omega (arith, length-append (f x) (flat f l), h x (here x l), flat-length f b l (λ a d. h a (List·Memᴰ·tail d)))

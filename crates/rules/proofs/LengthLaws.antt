@@ -80,7 +80,7 @@ list-line-length key text l room p m b s h =
 -- ── Rules and files ──────────────────────────────────────────────────────────────────────────────
 
 -- each element of a list gives at most b elements
-flat-length : {A B : Type 0} (f : A → List B) (d : A) (b : ℕ) (l : List A) → ((k : ℕ) → k < length l → length (f (getD l k d)) ≤ b) → length (flat f l) ≤ length l * b
+pub flat-length : {A B : Type 0} (f : A → List B) (d : A) (b : ℕ) (l : List A) → ((k : ℕ) → k < length l → length (f (getD l k d)) ≤ b) → length (flat f l) ≤ length l * b
 flat-length f d b [] h = omega arith
 flat-length f d b (x ∷ l) h = omega (arith, length-append (f x) (flat f l), h 0 (omega arith), flat-length f d b l (λ k n. h (suc k) (omega arith)))
 

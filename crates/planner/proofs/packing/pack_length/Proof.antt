@@ -1,10 +1,10 @@
--- `planner::file_entries::pack_length` meets its contract: the length is asked to be short, so nothing overflows.
+-- `planner::packing::pack_length` meets its contract: the length is asked to be short, so nothing overflows.
 -- Assumes nothing.
 use native.Mathlib.Omega.{arith}
 use borrow.Author.Needs.{needs}
 use Rattle.planner.specs.PackedLength.{packedLength}
-use Rattle.planner.proofs.file_entries.pack_length.Statement.{statement}
-use Rattle.planner.proofs.file_entries.pack_length.Tie as tie
+use Rattle.planner.proofs.packing.pack_length.Statement.{statement}
+use Rattle.planner.proofs.packing.pack_length.Tie as tie
 
 mul-result : tie.Need-mul-result
 mul-result c = search needs
