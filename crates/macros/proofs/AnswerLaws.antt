@@ -42,7 +42,7 @@ module _ (set : RuleSet) (moves : Sequence) where
         judged = (valid-iff set .0 isValid, (few, no-unknown-iff (set .count) moves .0 numbered))
 
         admits : (o : Option Lines) → composed set moves ≡ o → admitted set moves ≡ isSome o
-        admits o e = admitted-composed set (judged .0) moves (judged .1 .1) ∙ ap isSome e
+        admits o e = admitted-composed set (judged .0 .formed) moves (judged .1 .1) ∙ ap isSome e
 
         pub answer-denied : composed set moves ≡ none → macroAnswer set moves ≡ record { outcome = 17; result = blankMacro }
         unfolding macroAnswer macroCauses

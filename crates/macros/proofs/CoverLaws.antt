@@ -15,7 +15,7 @@ use Rattle.theory.proofs.ListLaws.{same-test}
 use Rattle.theory.proofs.TestLaws.{leb-iff, same-iff, and-iff}
 use Rattle.model.specs.States.{State, valuesOf, successor}
 use Rattle.model.specs.Rules.{ruleAt, runIn, sequenceCost, StateOf, RedundantIn, redundant}
-use Rattle.model.specs.Validity.{Valid}
+use Rattle.model.specs.Validity.{WellFormed}
 use Rattle.model.specs.declared.RuleSet.{RuleSet}
 use Rattle.model.proofs.StateLaws.{values-length, applicable-iff}
 use Rattle.model.proofs.RedundancyLaws.{redundant-iff}
@@ -46,7 +46,7 @@ run-read set (r ∷ a) v w e s =
       ap (runIn set a) (sym (values-values effect v s)) ∙ run-read set a (valuesOf effect v) w (h .1) s,
     )
 
-module _ (set : RuleSet) (valid : Valid set) (condition effect : List ℕ) (form : Canonical (set .positions) (set .sizes) condition effect) where
+module _ (set : RuleSet) (valid : WellFormed set) (condition effect : List ℕ) (form : Canonical (set .positions) (set .sizes) condition effect) where
   -- what runs from v to w wherever they are read in a state that meets the condition, runs on v itself
   run-back : (a : Sequence) → Numbered (set .count) a → (v w : List ℕ) → length v ≡ 16 → length w ≡ 16 → valuesOf v condition ≡ v → valuesOf w condition ≡ w
       → ((s : State) → StateOf set s → valuesOf condition s ≡ s → runIn set a (valuesOf v s) ≡ some (valuesOf w s)) → runIn set a v ≡ some w
@@ -78,14 +78,14 @@ ends-iff (some t) effect =
     (λ e. ap {B = Option State} some (same-iff t effect .0 e), λ e. same-iff t effect .1 (Option·some-injective t effect e))
 
 -- the test that each is the number of one of the set's rules passes
-pub numbered-passes : (set : RuleSet) → Valid set → (a : Sequence) → Numbered (set .count) a → every (within 1 (lastNumber set)) a ≡ true
+pub numbered-passes : (set : RuleSet) → WellFormed set → (a : Sequence) → Numbered (set .count) a → every (within 1 (lastNumber set)) a ≡ true
 numbered-passes set valid a h =
     let last = lastNumber set in
     let k = valid .countLimits .1 in
     let e : set .count ≡ last = omega arith in
     numbered-iff last a .1 (subst (λ n. Numbered n a) e h)
 
-module _ (set : RuleSet) (valid : Valid set) (b a : Sequence) (nb : Numbered (set .count) b) (na : Numbered (set .count) a) where
+module _ (set : RuleSet) (valid : WellFormed set) (b a : Sequence) (nb : Numbered (set .count) b) (na : Numbered (set .count) a) where
   -- from each state that admits b, a leads where b leads
   covers-iff : (covers set a (composed set b) ≡ true) ↔ ((s t : State) → StateOf set s → runIn set b s ≡ some t → runIn set a s ≡ some t)
   unfolding covers successor
@@ -127,4 +127,4 @@ module _ (set : RuleSet) (valid : Valid set) (b a : Sequence) (nb : Numbered (se
 pub test-tells : (set : RuleSet) (vectors : Vectors) (cost : ℕ) (a : Sequence) → TellsRedundancy set vectors cost a (redundantByLines set (linesOf vectors) cost a)
 test-tells set vectors cost a b valid nb na ev ec =
     let lines : linesOf vectors ≡ composed set b = ap linesOf ev ∙ lines-vectors (composed set b) in
-    rw (lines, ec) (redundant-by-lines-iff set valid b a nb na)
+    rw (lines, ec) (redundant-by-lines-iff set (valid .formed) b a nb na)

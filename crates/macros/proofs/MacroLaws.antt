@@ -72,8 +72,8 @@ module _ (set : RuleSet) (moves : Sequence) where
       go (invalid n) = (λ e. absurd (omega arith), λ w. absurd (n (w .0 .0)))
       go (long v h) = (λ e. absurd (omega arith), λ w. absurd (omega arith))
       go (unknown v h n) = (λ e. absurd (omega arith), λ w. absurd (n (w .0 .1 .1)))
-      go (denied j e) = (λ _. (j, denied-iff set (j .0) moves (j .1 .1) .0 e), λ _. refl)
-      go (given j m e) = (λ e. absurd (omega arith), λ w. absurd (not-denied (means-admitted set (j .0) moves _ (composed-means set (j .0) moves (j .1 .1) m e)) (w .1)))
+      go (denied j e) = (λ _. (j, denied-iff set (j .0 .formed) moves (j .1 .1) .0 e), λ _. refl)
+      go (given j m e) = (λ e. absurd (omega arith), λ w. absurd (not-denied (means-admitted set (j .0 .formed) moves _ (composed-means set (j .0 .formed) moves (j .1 .1) m e)) (w .1)))
 
   -- and not refused exactly if some state does
   pub macro-given-iff : (macroAnswer set moves .outcome ≡ 0) ↔ (Judged set moves × Admitted set moves)
@@ -83,8 +83,8 @@ module _ (set : RuleSet) (moves : Sequence) where
       go (invalid n) = (λ e. absurd (omega arith), λ w. absurd (n (w .0 .0)))
       go (long v h) = (λ e. absurd (omega arith), λ w. absurd (omega arith))
       go (unknown v h n) = (λ e. absurd (omega arith), λ w. absurd (n (w .0 .1 .1)))
-      go (denied j e) = (λ e. absurd (omega arith), λ w. absurd (not-denied (w .1) (denied-iff set (j .0) moves (j .1 .1) .0 e)))
-      go (given j m e) = (λ _. (j, means-admitted set (j .0) moves _ (composed-means set (j .0) moves (j .1 .1) m e)), λ _. refl)
+      go (denied j e) = (λ e. absurd (omega arith), λ w. absurd (not-denied (w .1) (denied-iff set (j .0 .formed) moves (j .1 .1) .0 e)))
+      go (given j m e) = (λ _. (j, means-admitted set (j .0 .formed) moves _ (composed-means set (j .0 .formed) moves (j .1 .1) m e)), λ _. refl)
 
   -- ── What the macro is ──────────────────────────────────────────────────────────────────────────
 
@@ -96,7 +96,7 @@ module _ (set : RuleSet) (moves : Sequence) where
       go (long v h) e = absurd (omega arith)
       go (unknown v h n) e = absurd (omega arith)
       go (denied j e) z = absurd (omega arith)
-      go (given j m e) z = composed-means set (j .0) moves (j .1 .1) m e
+      go (given j m e) z = composed-means set (j .0 .formed) moves (j .1 .1) m e
 
   -- the macro is the one with the meaning
   pub macro-iff : (m : Macro) → (macroAnswer set moves ≡ record { outcome = 0; result = m }) ↔ (Judged set moves × Means set moves m)
@@ -109,8 +109,8 @@ module _ (set : RuleSet) (moves : Sequence) where
 
       from : Judged set moves × Means set moves m → macroAnswer set moves ≡ record { outcome = 0; result = m }
       from w =
-          let z = macro-given-iff .1 (w .0, means-admitted set (w .0 .0) moves m (w .1)) in
-          let same = means-unique set (w .0 .0) moves (macroAnswer set moves .result) m (macro-means z) (w .1) in
+          let z = macro-given-iff .1 (w .0, means-admitted set (w .0 .0 .formed) moves m (w .1)) in
+          let same = means-unique set (w .0 .0 .formed) moves (macroAnswer set moves .result) m (macro-means z) (w .1) in
           λ i. record { outcome = z i; result = same i }
 
   -- a macro costs at most 8,160: at most 32 rules, each at most 255
@@ -122,7 +122,7 @@ module _ (set : RuleSet) (moves : Sequence) where
       go (long v h) = omega arith
       go (unknown v h n) = omega arith
       go (denied j e) = omega arith
-      go (given j m e) = omega (arith, valid-cost set (j .0) moves (j .1 .1))
+      go (given j m e) = omega (arith, valid-cost set (j .0 .formed) moves (j .1 .1))
 
   -- a refused macro is all zeros
   pub macro-refused : macroAnswer set moves .outcome ≢ 0 → macroAnswer set moves .result ≡ blankMacro
@@ -159,7 +159,7 @@ module _ (set : RuleSet) (isValid : Valid set) where
   -- the unused places are 0
   pub unused-places : (q : Sequence) (m : Macro) → Means set q m → (i : ℕ) → set .positions ≤ i → (getD (m .condition) i 0 ≡ 0) × (getD (m .effect) i 0 ≡ 0)
   unused-places q m means i h =
-      let form = means-canonical set isValid q m means in
+      let form = means-canonical set (isValid .formed) q m means in
       (zero-beyond (m .condition) (form .conditionFits) i h, zero-beyond (m .effect) (form .effectFits) i h)
 
   -- the empty sequence's macro: each variable in its own place, at no cost

@@ -12,7 +12,7 @@ use Rattle.theory.specs.Sequences.{Sequence, Numbered}
 use Rattle.theory.proofs.ListLaws.{same-test, of-isSome}
 use Rattle.model.specs.States.{State, valuesOf, width, successor}
 use Rattle.model.specs.Rules.{ruleAt, StateOf, runIn, sequenceCost, admitted}
-use Rattle.model.specs.Validity.{Valid}
+use Rattle.model.specs.Validity.{WellFormed}
 use Rattle.model.specs.declared.RuleSet.{RuleSet}
 use Rattle.model.proofs.StateLaws.{applicable-iff}
 use Rattle.model.proofs.ValidityLaws.{valid-width-position}
@@ -28,7 +28,7 @@ use Rattle.macros.proofs.Descriptions.{Leads, Form, Describes, describe
 use Rattle.macros.proofs.EmptyLaws.{own-state, own-canonical}
 use Rattle.macros.proofs.CompositionLaws.{extended-describes}
 
-module _ (set : RuleSet) (valid : Valid set) where
+module _ (set : RuleSet) (valid : WellFormed set) where
   abbrev few : set .positions ≤ 16
   few = valid .positionLimits .1
 

@@ -11,7 +11,7 @@ use Rattle.theory.specs.Sequences.{Sequence}
 use Rattle.theory.proofs.TestLaws.{below?}
 use Rattle.model.specs.States.{State, valueOf, valuesOf, successor}
 use Rattle.model.specs.Rules.{StateOf}
-use Rattle.model.specs.Validity.{Valid}
+use Rattle.model.specs.Validity.{WellFormed}
 use Rattle.model.specs.declared.RuleSet.{RuleSet}
 use Rattle.model.proofs.StateLaws.{value-constant, applicable-iff}
 use Rattle.macros.specs.Answers.{Means}
@@ -34,7 +34,7 @@ conditions-equal p c n pc cp lp lc = ext-getD 0 p c n (λ i _. at (getD p i 0) (
 
 -- ── Macros ───────────────────────────────────────────────────────────────────────────────────────
 
-module _ (set : RuleSet) (valid : Valid set) (q : Sequence) where
+module _ (set : RuleSet) (valid : WellFormed set) (q : Sequence) where
   module _ (m n : Macro) (hm : Means set q m) (hn : Means set q n) where
     -- a state that meets the one condition meets the other
     also-meets : (s : State) → StateOf set s → valuesOf (n .condition) s ≡ s → valuesOf (m .condition) s ≡ s

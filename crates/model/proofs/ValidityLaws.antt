@@ -15,7 +15,7 @@ use Rattle.theory.proofs.TestLaws.{below?, leb-iff, ltb-iff, eqb-iff, same-iff,
 use Rattle.model.specs.States.{State, valueOf, applicable, successor, width, IsState}
 use Rattle.model.specs.Rules.{noRule, blankRule, emptySet, ruleAt, stepOf, ruleCost, StateOf, sequenceCost}
 use Rattle.model.specs.Validity.{entryLimited, conditionPlaced, effectPlaced, conditionValid, effectValid, sizeValid, sizesValid, ruleValid, ruleBlank, ruleValidAt, rulesValid}
-use Rattle.model.specs.Validity.{duplicate, repeated, hasDuplicates, wellFormed, valid, EntryValid, LinesValid, Valid}
+use Rattle.model.specs.Validity.{duplicate, repeated, hasDuplicates, wellFormed, valid, EntryValid, LinesValid, WellFormed, Valid}
 use Rattle.model.specs.declared.Rule.{Rule}
 use Rattle.model.specs.declared.RuleSet.{RuleSet}
 use Rattle.model.proofs.StateLaws.{width-position, width-beyond, value-constant, value-variable, successor-at, successor-length}
@@ -111,34 +111,36 @@ duplicates-iff rules n = any-below-iff _ _ (λ k. any-below-iff _ _ (λ j. dupli
 zero-beyond : (sizes : List ℕ) (i : ℕ) → length sizes ≡ 16 → (i < 16 → getD sizes i 0 ≡ 0) → getD sizes i 0 ≡ 0
 zero-beyond sizes i n f = ⊎-elim f (λ h. List·getD-eq-default sizes 0 (omega arith)) (below? i 16)
 
-pub valid-iff : (set : RuleSet) → (valid set ≡ true) ↔ Valid set
-unfolding valid wellFormed
-valid-iff set =
+pub formed-iff : (set : RuleSet) → (wellFormed set ≡ true) ↔ WellFormed set
+unfolding wellFormed
+formed-iff set =
     let tests =
-    and-iff _ _
-    (and-iff _ _ (within-iff 1 16 (set .positions)) (and-iff _ _ (sizes-iff (set .positions) (set .sizes)) (and-iff _ _ (within-iff 1 31 (set .count)) (rules-iff set))))
-    (not-iff _ (duplicates-iff (set .rules) (set .count))) in (
+    and-iff _ _ (within-iff 1 16 (set .positions)) (and-iff _ _ (sizes-iff (set .positions) (set .sizes)) (and-iff _ _ (within-iff 1 31 (set .count)) (rules-iff set))) in (
       λ t.
           let w = tests .0 t in
-          let sizes = w .0 .1 .0 in
-          let rules = w .0 .1 .1 .1 in
+          let sizes = w .1 .0 in
+          let rules = w .1 .1 .1 in
           record {
-            positionLimits = w .0 .0;
+            positionLimits = w .0;
             sizesLength = sizes .0;
             sizeLimits = λ i h. sizes .1 i (omega arith) .0 h;
             sizesBeyond = λ i h. zero-beyond (set .sizes) i (sizes .0) (λ k. sizes .1 i k .1 h);
-            countLimits = w .0 .1 .1 .0;
+            countLimits = w .1 .1 .0;
             rulesLength = rules .0;
             costLimits = λ k h. rules .1 k (omega arith) .0 h .0;
             lines = λ k h. rules .1 k (omega arith) .0 h .1;
             rulesBeyond = λ k h b. rules .1 k b .1 h;
-            noDuplicates = λ j k h b e. w .1 (k, b, (j, h, e));
           },
       λ v.
-          tests .1 (
-            (v .positionLimits, ((v .sizesLength, λ i _. (v .sizeLimits i, v .sizesBeyond i)), (v .countLimits, (v .rulesLength, λ k h. (λ b. (v .costLimits k b, v .lines k b), λ b. v .rulesBeyond k b h))))),
-            λ d. v .noDuplicates (d .2 .0) (d .0) (d .2 .1) (d .1) (d .2 .2),
-          ),
+          tests .1 (v .positionLimits, ((v .sizesLength, λ i _. (v .sizeLimits i, v .sizesBeyond i)), (v .countLimits, (v .rulesLength, λ k h. (λ b. (v .costLimits k b, v .lines k b), λ b. v .rulesBeyond k b h))))),
+    )
+
+pub valid-iff : (set : RuleSet) → (valid set ≡ true) ↔ Valid set
+unfolding valid
+valid-iff set =
+    let tests = and-iff _ _ (formed-iff set) (not-iff _ (duplicates-iff (set .rules) (set .count))) in (
+      λ t. let w = tests .0 t in record { formed = w .0; noDuplicates = λ j k h b e. w .1 (k, b, (j, h, e)) },
+      λ v. tests .1 (v .formed, λ d. v .noDuplicates (d .2 .0) (d .0) (d .2 .1) (d .1) (d .2 .2)),
     )
 
 pub empty-invalid : valid emptySet ≡ false
@@ -148,15 +150,15 @@ empty-invalid = refl
 -- ── Widths and states of a valid set ─────────────────────────────────────────────────────────────
 
 -- each place has a value, and at most sixteen
-pub valid-width : (set : RuleSet) → Valid set → (i : ℕ) → (1 ≤ width (set .positions) (set .sizes) i) × (width (set .positions) (set .sizes) i ≤ 16)
+pub valid-width : (set : RuleSet) → WellFormed set → (i : ℕ) → (1 ≤ width (set .positions) (set .sizes) i) × (width (set .positions) (set .sizes) i ≤ 16)
 valid-width set v i =
     ⊎-elim (λ h. omega (arith, v .sizeLimits i h, width-position (set .positions) (set .sizes) i h)) (λ h. omega (arith, width-beyond (set .positions) (set .sizes) i h)) (below? i (set .positions))
 
 -- a position has two or more
-pub valid-width-position : (set : RuleSet) → Valid set → (i : ℕ) → i < set .positions → 2 ≤ width (set .positions) (set .sizes) i
+pub valid-width-position : (set : RuleSet) → WellFormed set → (i : ℕ) → i < set .positions → 2 ≤ width (set .positions) (set .sizes) i
 valid-width-position set v i h = omega (arith, v .sizeLimits i h, width-position (set .positions) (set .sizes) i h)
 
-pub valid-state : (set : RuleSet) → Valid set → StateOf set (replicate 16 0)
+pub valid-state : (set : RuleSet) → WellFormed set → StateOf set (replicate 16 0)
 valid-state set v = (refl, λ i h. omega (arith, valid-width set v i, getD-replicate {A = ℕ} 16 i 0 0 h))
 
 -- ── Steps ────────────────────────────────────────────────────────────────────────────────────────
@@ -183,7 +185,7 @@ pub step-iff : (set : RuleSet) (r : ℕ) (s t : State) → (stepOf set r s ≡ s
 unfolding stepOf
 step-iff set r s t = onlyIf-iff (applicable (ruleAt set r .condition) s) (successor (ruleAt set r .effect) s) t
 
-pub valid-closed : (set : RuleSet) → Valid set → Closed (stepOf set) (set .count) (StateOf set)
+pub valid-closed : (set : RuleSet) → WellFormed set → Closed (stepOf set) (set .count) (StateOf set)
 unfolding ruleAt
 valid-closed set v r s t h k d e =
     subst (StateOf set) (sym (step-iff set r s t .0 e .1))
@@ -191,7 +193,7 @@ valid-closed set v r s t h k d e =
 
 -- ── Costs ────────────────────────────────────────────────────────────────────────────────────────
 
-pub valid-cost : (set : RuleSet) → Valid set → (q : Sequence) → Numbered (set .count) q → sequenceCost set q ≤ 255 * length q
+pub valid-cost : (set : RuleSet) → WellFormed set → (q : Sequence) → Numbered (set .count) q → sequenceCost set q ≤ 255 * length q
 unfolding sequenceCost ruleCost ruleAt
 valid-cost set v [] h = omega arith
 valid-cost set v (r ∷ q) h = omega (arith, v .costLimits (r - 1) (omega arith), valid-cost set v q (h .2))

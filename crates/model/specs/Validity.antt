@@ -110,8 +110,8 @@ pub record LinesValid (positions : ℕ) (sizes condition effect : List ℕ) : Ty
   pub notLater : (i : ℕ) → i < 16 → 16 ≤ getD condition i 0 → getD condition i 0 - 16 ≤ i
   pub effectEntries : (i : ℕ) → i < 16 → EntryValid positions sizes condition i (getD effect i 0)
 
--- the set is valid (document 01: sound)
-pub record Valid (set : RuleSet) : Type 0 where
+-- the set is valid but for duplicates
+pub record WellFormed (set : RuleSet) : Type 0 where
   pub positionLimits : (1 ≤ set .positions) × (set .positions ≤ 16)
   pub sizesLength : length (set .sizes) ≡ 16
   pub sizeLimits : (i : ℕ) → i < set .positions → (2 ≤ getD (set .sizes) i 0) × (getD (set .sizes) i 0 ≤ 16)
@@ -121,5 +121,9 @@ pub record Valid (set : RuleSet) : Type 0 where
   pub costLimits : (k : ℕ) → k < set .count → getD (set .rules) k noRule .cost ≤ 255
   pub lines : (k : ℕ) → k < set .count → LinesValid (set .positions) (set .sizes) (getD (set .rules) k noRule .condition) (getD (set .rules) k noRule .effect)
   pub rulesBeyond : (k : ℕ) → set .count ≤ k → k < 31 → getD (set .rules) k noRule ≡ blankRule
+
+-- the set is valid (document 01: sound)
+pub record Valid (set : RuleSet) : Type 0 where
+  pub formed : WellFormed set
   pub noDuplicates : (j k : ℕ) → j < k → k < set .count
       → (getD (set .rules) j noRule .condition ≡ getD (set .rules) k noRule .condition) × (getD (set .rules) j noRule .effect ≡ getD (set .rules) k noRule .effect) → ⊥

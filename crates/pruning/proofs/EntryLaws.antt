@@ -16,7 +16,7 @@ use Rattle.theory.proofs.ListLaws.{here}
 use Rattle.theory.proofs.SequenceLaws.{of-sequences}
 use Rattle.theory.proofs.IndexLaws.{sequences-all}
 use Rattle.model.specs.Rules.{sequenceCost, redundant}
-use Rattle.model.specs.Validity.{Valid}
+use Rattle.model.specs.Validity.{WellFormed}
 use Rattle.model.specs.declared.RuleSet.{RuleSet}
 use Rattle.model.proofs.RedundancyLaws.{redundant-iff}
 use Rattle.macros.specs.Composition.{composed}
@@ -61,7 +61,7 @@ first-earlier test j (suc i) n (q ∷ later) p h e = go (test q) (first-earlier 
 -- ── The search for a witness ─────────────────────────────────────────────────────────────────────
 
 -- the search's test is redundancy
-serves-redundant : (set : RuleSet) → Valid set → (b a : Sequence) → Numbered (set .count) b → Numbered (set .count) a
+serves-redundant : (set : RuleSet) → WellFormed set → (b a : Sequence) → Numbered (set .count) b → Numbered (set .count) a
     → serves set (composed set b) (sequenceCost set b) a ≡ redundant set b a
 unfolding serves redundantByLines
 serves-redundant set valid b a nb na = sym (rw (numbered-passes set valid a na)) ∙ redundant-by-lines set valid b a nb na
@@ -71,7 +71,7 @@ redundant-itself : (set : RuleSet) (b : Sequence) → redundant set b b ≡ true
 redundant-itself set b = redundant-iff set b b .1 (omega arith, λ s t d e. e)
 
 -- what the search finds for sequence i is at most i; the entry is 65535 where it is i, and else what is found
-pub built-found : (set : RuleSet) → Valid set → (i : ℕ) → i < tableEntries set 3
+pub built-found : (set : RuleSet) → WellFormed set → (i : ℕ) → i < tableEntries set 3
     → (f : ℕ) → f ≡ firstBehind (set .count) 0 (serves set (composed set (sequenceAt set 3 i)) (sequenceCost set (sequenceAt set 3 i))) (sequences (set .count) 3)
     → (f ≤ i) × (builtEntry set 3 i ≡ cond (eqb f i) kept f)
 unfolding tableEntries sequenceAt builtEntry

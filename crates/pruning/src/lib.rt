@@ -14,7 +14,7 @@ use witnesses::entry_for;
 ghost use mathlib.Core.Path.{_≡_};
 ghost use Prim.Native.Nat.{_+_, _*_, _≤_, _<_};
 ghost use lib.ListN.{length};
-ghost use Rattle.model.specs.Validity.{Valid};
+ghost use Rattle.model.specs.Validity.{WellFormed};
 ghost use Rattle.tables.specs.Table.{tableEntries, entryAt, builtTable, entryJustified, accepted};
 ghost use Rattle.tables.specs.Answers.{tableSize, SizeMeaning, buildOutcome, builtBuffer, BuildMeaning, checkOutcome, CheckMeaning};
 
@@ -63,7 +63,7 @@ fn table_refusal(set: RuleSet, reach: usize, size: usize) -> u8
 
 // Writes every entry, in order. `reach` is for the contract alone: a table of a smaller reach begins as that of reach 3 does.
 fn write_entries(set: RuleSet, reach: usize, table: &mut [u8])
-    requires { ⌜ Valid set × (reach ≤ 3) × (length (now table) ≡ 2 * tableEntries set reach) ⌝ }
+    requires { ⌜ WellFormed set × (reach ≤ 3) × (length (now table) ≡ 2 * tableEntries set reach) ⌝ }
     ensures { λ _. ⌜ now (table .exit) ≡ builtTable set reach ⌝ }
 {
     let count = table.len() / 2;
@@ -101,7 +101,7 @@ fn entry_at(table: &[u8], i: usize) -> usize
 
 // Whether an entry keeps its sequence, or names a smaller index with whose sequence it is redundant.
 fn justified(set: RuleSet, table: &[u8], i: usize) -> bool
-    requires { ⌜ Valid set × (i < tableEntries set 3) × (2 * i + 1 < length (now table)) ⌝ }
+    requires { ⌜ WellFormed set × (i < tableEntries set 3) × (2 * i + 1 < length (now table)) ⌝ }
     ensures { λ r. ⌜ r ≡ entryJustified set 3 (now (table .entry)) i ⌝ }
 {
     let entry = entry_at(table, i);
@@ -120,7 +120,7 @@ fn justified(set: RuleSet, table: &[u8], i: usize) -> bool
 
 // Whether every entry is justified. Entry 0 has no smaller index to name, so it has to be 65535. `reach` is for the contract alone, as in `write_entries`.
 fn is_accepted(set: RuleSet, reach: usize, table: &[u8]) -> bool
-    requires { ⌜ Valid set × (reach ≤ 3) × (length (now table) ≡ 2 * tableEntries set reach) ⌝ }
+    requires { ⌜ WellFormed set × (reach ≤ 3) × (length (now table) ≡ 2 * tableEntries set reach) ⌝ }
     ensures { λ r. ⌜ r ≡ accepted set reach (now (table .entry)) ⌝ }
 {
     let count = table.len() / 2;

@@ -18,7 +18,7 @@ ghost use lib.Dec.{leb};
 ghost use Rattle.theory.specs.Lists.{same};
 ghost use Rattle.theory.specs.Sequences.{level, sequences};
 ghost use Rattle.model.specs.States.{applicable, successor};
-ghost use Rattle.model.specs.Validity.{Valid};
+ghost use Rattle.model.specs.Validity.{WellFormed};
 ghost use Rattle.macros.specs.Composition.{linesOf};
 ghost use Rattle.tables.specs.Table.{sequenceCount, tableEntries, builtEntry};
 ghost use Rattle.pruning.specs.Witnesses.{firstBehind, serves};
@@ -148,7 +148,7 @@ fn smallest_witness(set: RuleSet, sequence: Vectors, cost: u16) -> usize
 
 // The entry that the builder gives the sequence of an index. A sequence is redundant with itself, so the search ends there at the latest.
 pub(crate) fn entry_for(set: RuleSet, index: usize) -> usize
-    requires { ⌜ Valid set × (index < tableEntries set 3) ⌝ }
+    requires { ⌜ WellFormed set × (index < tableEntries set 3) ⌝ }
     ensures { λ r. ⌜ (r ≡ builtEntry set 3 index) × (r < 65536) ⌝ }
 {
     let own = profile_at(set, index);

@@ -67,7 +67,7 @@ module _ (set : RuleSet) (query : Query) where
   found-bounded : (f : Found) → Bounded (f .plan)
   found-bounded f =
       let leads = cheapest-leads set query (f .plan) (f .cheapest) .0 in
-      let c = valid-cost set (f .validSet) (f .plan) (leads .runsWithin .rules) in
+      let c = valid-cost set (f .validSet .formed) (f .plan) (leads .runsWithin .rules) in
       (omega (arith, leads .runsWithin .moves, f .few), omega (arith, leads .runsWithin .moves, f .room), omega (arith, c, leads .runsWithin .moves, f .few))
 
   shown-bounded : Bounded (shownPlan set query outcome)

@@ -17,7 +17,7 @@ use Rattle.theory.proofs.TestLaws.{below?}
 use Rattle.theory.proofs.PruningLaws.{cheapest-not-pruned}
 use Rattle.model.specs.States.{width}
 use Rattle.model.specs.Rules.{stepOf, ruleCost, StateOf}
-use Rattle.model.specs.Validity.{valid, Valid}
+use Rattle.model.specs.Validity.{valid, WellFormed}
 use Rattle.model.specs.declared.RuleSet.{RuleSet}
 use Rattle.model.proofs.StateLaws.{width-position, width-beyond}
 use Rattle.model.proofs.ValidityLaws.{valid-iff, valid-closed}
@@ -37,7 +37,7 @@ padded-at (x ∷ l) n (suc i) = padded-at l n i
 
 module _ (set : RuleSet) (query : Query) where
   -- a start that fits is a state of the sizes
-  pub start-state : Valid set → startFits set (query .start) ≡ true → StateOf set (startState query)
+  pub start-state : WellFormed set → startFits set (query .start) ≡ true → StateOf set (startState query)
   start-state v e = (size, below)
     where
       fits : StartFits set (query .start)
@@ -65,7 +65,7 @@ module _ (set : RuleSet) (query : Query) where
   unfolding cheapestPlan plansFor
   plan-visited h p e =
       let w = faultless h in
-      let v = valid-iff set .0 (w .0) in
+      let v = valid-iff set .0 (w .0) .formed in
       visited-iff set query p .1 (
         cheapest-leads set query p e .0 .runsWithin,
         unpruned-iff set query p .0

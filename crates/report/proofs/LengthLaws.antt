@@ -98,7 +98,7 @@ listing-limits text = go (eqb (reading text .outcome) 0) refl
         × (length (cond b (listingOf (reading text .set)) (line "refused=" (numeral (reading text .outcome) ∷ []))) ≤ 20859)
     go true e =
         let valid = read-valid text (eqb-true (reading text .outcome) 0 e) in
-        (listing-of-some (reading text .set), listing-of-length (reading text .set) (valid .countLimits .1))
+        (listing-of-some (reading text .set), listing-of-length (reading text .set) (valid .formed .countLimits .1))
     go false e = rw (line-length "refused=" (numeral (reading text .outcome) ∷ [])) (omega arith, omega (arith, numeral-length (reading text .outcome) .0))
 
 -- a listing has at most 20,859 bytes

@@ -55,7 +55,7 @@ module _ (text : List ℕ) where
     }
       where
         few : (set : RuleSet) → ReadAs text set → set .count ≤ 31
-        few set p = read-written text set p .0 .countLimits .1
+        few set p = read-written text set p .0 .formed .countLimits .1
 
         short : (room < length (listing text)) ⊎ (length (listing text) ≤ room) → (reportLength text room ≡ 0) ↔ (room < length (listing text))
         short (inl h) = (λ _. h, λ _. report-short h .0)

@@ -14,7 +14,7 @@ use borrow.Author.Tests.{lt-ltb, le-ltb}
 use Rattle.theory.specs.Lists.{flat}
 use Rattle.theory.proofs.TestLaws.{below?}
 use Rattle.model.specs.Rules.{noRule}
-use Rattle.model.specs.Validity.{valid, EntryValid, LinesValid, Valid}
+use Rattle.model.specs.Validity.{valid, EntryValid, LinesValid, WellFormed}
 use Rattle.model.specs.declared.Rule.{Rule}
 use Rattle.model.specs.declared.RuleSet.{RuleSet}
 use Rattle.model.proofs.ValidityLaws.{valid-iff}
@@ -117,7 +117,7 @@ rule-length positions sizes rule m b v =
       effect-length positions sizes (rule .condition) (rule .effect) v m b,
     ))
 
-module _ (set : RuleSet) (v : Valid set) where
+module _ (set : RuleSet) (v : WellFormed set) where
   -- the line of the sizes
   sizes-length : length (line "sizes=" (map numeral (take (set .positions) (set .sizes)))) ≤ 54
   sizes-length = list-line-length "sizes=" numeral (set .sizes) (λ _. 3) (set .positions) (v .positionLimits .0) (v .positionLimits .1) (v .sizesLength) fits
@@ -140,7 +140,7 @@ module _ (set : RuleSet) (v : Valid set) where
 pub render-bound : (set : RuleSet) → valid set ≡ true → length (render set) ≤ 4292
 unfolding render
 render-bound set t =
-    let v : Valid set = valid-iff set .0 t in
+    let v : WellFormed set = valid-iff set .0 t .formed in
     simp (length-append, line-length "positions=", line-length "rules=") (omega (
       arith,
       numeral-length (set .positions) .1 (omega arith),

@@ -104,7 +104,7 @@ module _ (set : RuleSet) (query : Query) (notRefused : NotRefused set query) (bl
   unfolding visitedBy cheapestPlan plansFor
   best-plan =
       let started = judged .0 .0 .0 .0 in
-      let v = started .0 .0 in
+      let v = started .0 .0 .formed in
       best-cheapest (stepOf set) (ruleCost set) (set .count) (StateOf set) (valid-closed set v) marks
       (accepted-justified set (query .reach) (query .table) (accepted-iff set (query .reach) (query .table) .1 (judged .1))) (startState query)
       (start-state set query v (start-fits-iff set (query .start) .1 (started .1))) (meetsGoal (query .goal)) (query .maxMoves) (query .maxCost)

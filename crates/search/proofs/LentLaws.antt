@@ -9,7 +9,7 @@ use native.Mathlib.Omega.{arith}
 use lib.ListN.{length, getD, replicate, List·getD-map, List·getD-eq-default}
 use Rattle.theory.proofs.TestLaws.{below?}
 use Rattle.model.specs.Rules.{noRule, StateOf}
-use Rattle.model.specs.Validity.{Valid, EntryValid}
+use Rattle.model.specs.Validity.{WellFormed, EntryValid}
 use Rattle.model.specs.declared.RuleSet.{RuleSet}
 use Rattle.model.proofs.StateLaws.{width-beyond}
 use Rattle.model.proofs.ValidityLaws.{valid-width-position}
@@ -25,7 +25,7 @@ use Rattle.queries.proofs.MeaningLaws.{not-refused-iff}
 use Rattle.search.specs.Visits.{ZerosFrom, Lent, Reached}
 use Rattle.search.specs.declared.visits.Limits.{Limits}
 
-module _ (set : RuleSet) (v : Valid set) where
+module _ (set : RuleSet) (v : WellFormed set) where
   -- an entry beyond the positions is 0: a variable there would have the size of a position, which is at least 2
   entry-beyond : (condition : List ℕ) (i e : ℕ) → set .positions ≤ i → EntryValid (set .positions) (set .sizes) condition i e → e ≡ 0
   entry-beyond condition i e h k =
@@ -50,8 +50,8 @@ module _ (set : RuleSet) (query : Query) (notRefused : NotRefused set query) whe
   judged : WellPosed set query
   judged = not-refused-iff set query .0 notRefused
 
-  valid : Valid set
-  valid = judged .0 .0 .0 .0 .0 .0
+  valid : WellFormed set
+  valid = judged .0 .0 .0 .0 .0 .0 .formed
 
   -- the start fits a state, and the table the look-up
   pub start-fits : length (query .start) ≤ 16

@@ -118,7 +118,7 @@ module _ (set : RuleSet) (reach size : ℕ) where
   built-marks e q =
       let w = build-ready-iff .0 e in
       let m = marked-iff set reach (builtTable set reach) q in
-      let b = built-marks-iff set reach (w .0 .countLimits .1) (w .1 .0 .1) q in
+      let b = built-marks-iff set reach (w .0 .formed .countLimits .1) (w .1 .0 .1) q in
       rw (built-whole e) (λ k. b .0 (m .1 k), λ p. m .0 (b .1 p))
 
   -- and each names the smallest index that will do

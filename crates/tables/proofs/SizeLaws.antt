@@ -41,7 +41,7 @@ module _ (set : RuleSet) (reach : ℕ) where
   -- at most 61,568 bytes
   bytes-bound : Valid set → ReachLimits reach → 2 * tableEntries set reach ≤ 61568
   unfolding tableEntries
-  bytes-bound v r = omega (arith, count-bound (set .count) reach (v .countLimits .1) (r .1))
+  bytes-bound v r = omega (arith, count-bound (set .count) reach (v .formed .countLimits .1) (r .1))
 
   pub size-meaning : SizeMeaning set reach (tableSize set reach)
   size-meaning = go size-answered

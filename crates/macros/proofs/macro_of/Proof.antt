@@ -34,7 +34,7 @@ module _ (set : RuleSet) (moves : Sequence) where
 
   -- a valid set has at most 31 rules
   numbered-31 : valid set ≡ true → any (λ r. not (within 1 (set .count) r)) moves ≡ false → Numbered 31 moves
-  numbered-31 isValid numbered = numbered-wider (set .count) 31 moves (valid-iff set .0 isValid .countLimits .1) (no-unknown-iff (set .count) moves .0 numbered)
+  numbered-31 isValid numbered = numbered-wider (set .count) 31 moves (valid-iff set .0 isValid .formed .countLimits .1) (no-unknown-iff (set .count) moves .0 numbered)
 
 -- ── The proof ────────────────────────────────────────────────────────────────────────────────────
 

@@ -39,7 +39,7 @@ write-entries-requires : tie.Need-write-entries-requires
 write-entries-requires c κs =
     let s = c .before .before .before .before .args in
     let w = build-ready-iff (s .set) (s .reach) (length (s .table .now)) .0 (sym (c .before .before .table-refusal .ensures) ∙ c .before .if1 .left) in
-    (w .0, w .1 .0 .1, w .1 .1)
+    (w .0 .formed, w .1 .0 .1, w .1 .1)
 
 same-length-2 : tie.Need-same-length-2
 same-length-2 c = search needs

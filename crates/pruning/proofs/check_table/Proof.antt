@@ -31,7 +31,7 @@ is-accepted-requires : tie.Need-is-accepted-requires
 is-accepted-requires c κs =
     let s = c .before .before .before .args in
     let w = build-ready-iff (s .set) (s .reach) (length (s .table .now)) .0 (sym (c .before .table-refusal .ensures) ∙ c .if1 .left) in
-    (w .0, w .1 .0 .1, w .1 .1)
+    (w .0 .formed, w .1 .0 .1, w .1 .1)
 
 returns-2 : tie.Need-returns-2
 returns-2 c =

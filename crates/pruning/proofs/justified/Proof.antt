@@ -9,7 +9,7 @@ use borrow.Author.Tests.{eq-eqb, ne-eqb, lt-ltb, le-ltb}
 use borrow.Author.Needs.{needs}
 use Rattle.theory.specs.Sequences.{Sequence}
 use Rattle.model.specs.Rules.{sequenceCost, redundant}
-use Rattle.model.specs.Validity.{Valid}
+use Rattle.model.specs.Validity.{WellFormed}
 use Rattle.model.specs.declared.RuleSet.{RuleSet}
 use Rattle.macros.specs.Composition.{composed, asVectors, linesOf}
 use Rattle.macros.specs.Redundancy.{redundantByLines}
@@ -46,7 +46,7 @@ module _ (set : RuleSet) (table : List ℕ) (i entry : ℕ) (e : entry ≡ entry
           ∙ sym (rw (ne-eqb (entryAt table i) kept (λ k. marked (e ∙ k)), lt-ltb (entryAt table i) i (omega arith)))
 
       -- and the test on the sequence's vectors and cost tells that
-      compared : Valid set → i < tableEntries set 3 → (vectors : Vectors) → vectors ≡ asVectors (composed set (sequenceAt set 3 i)) → (cost : ℕ) → cost ≡ sequenceCost set (sequenceAt set 3 i)
+      compared : WellFormed set → i < tableEntries set 3 → (vectors : Vectors) → vectors ≡ asVectors (composed set (sequenceAt set 3 i)) → (cost : ℕ) → cost ≡ sequenceCost set (sequenceAt set 3 i)
           → (witness : Sequence) → witness ≡ sequenceAt set 3 entry → (r : Bool) → r ≡ redundantByLines set (linesOf vectors) cost witness → r ≡ entryJustified set 3 table i
       compared valid h vectors v cost c witness w r t =
           t

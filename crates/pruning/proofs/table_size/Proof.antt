@@ -48,7 +48,7 @@ sequence-count-requires : tie.Need-sequence-count-requires
 sequence-count-requires c κs =
     let judged = c .before .before in
     let s = judged .before .before .args in
-    (valid-iff (s .set) .0 (passed (judged .before .is-valid .ensures) (judged .if1 .left)) .countLimits .1, c .if3 .left)
+    (valid-iff (s .set) .0 (passed (judged .before .is-valid .ensures) (judged .if1 .left)) .formed .countLimits .1, c .if3 .left)
 
 mul-length : tie.Need-mul-length
 mul-length c = search needs

@@ -30,11 +30,11 @@ module _ (set : RuleSet) (valid : Valid set) where
     unfolding tableEntries
     ready =
         rw e (
-          valid .countLimits .0,
-          valid .countLimits .1,
+          valid .formed .countLimits .0,
+          valid .formed .countLimits .1,
           built-length set 2,
           built-earlier set,
-          omega (arith, ap length (table-listing set), listing-of-length set (valid .countLimits .1)),
+          omega (arith, ap length (table-listing set), listing-of-length set (valid .formed .countLimits .1)),
         )
 
     -- and its listing is that of the set

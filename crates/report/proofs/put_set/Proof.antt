@@ -40,24 +40,24 @@ add-size : tie.Need-add-size
 add-size c = search needs
 
 mul-size : tie.Need-mul-size
-mul-size c = let s = c .before .before in omega (arith, square-limit (s .args .set .count) (s .pre .countLimits .1))
+mul-size c = let s = c .before .before in omega (arith, square-limit (s .args .set .count) (s .pre .formed .countLimits .1))
 
 add-size-2 : tie.Need-add-size-2
-add-size-2 c = let s = c .before .before in omega (arith, part-limit (s .args .set .count) (s .pre .countLimits .1))
+add-size-2 c = let s = c .before .before in omega (arith, part-limit (s .args .set .count) (s .pre .formed .countLimits .1))
 
 mul-size-2 : tie.Need-mul-size-2
-mul-size-2 c = let s = c .before .before in omega (arith, part-limit (s .args .set .count) (s .pre .countLimits .1))
+mul-size-2 c = let s = c .before .before in omega (arith, part-limit (s .args .set .count) (s .pre .formed .countLimits .1))
 
 array-borrow-prefix-table : tie.Need-array-borrow-prefix-table
-array-borrow-prefix-table c = let s = c .before .before .before in part-limit (s .args .set .count) (s .pre .countLimits .1)
+array-borrow-prefix-table c = let s = c .before .before .before in part-limit (s .args .set .count) (s .pre .formed .countLimits .1)
 
 slice-aggregate-put-built : tie.Need-slice-aggregate-put-built
-slice-aggregate-put-built c = let s = c .before .before .before .before in sym (part-length (s .args .set .count) (s .pre .countLimits .1))
+slice-aggregate-put-built c = let s = c .before .before .before .before in sym (part-length (s .args .set .count) (s .pre .formed .countLimits .1))
 
 put-built-requires : tie.Need-put-built-requires
 put-built-requires c κs =
     let s = c .before .before .before .before in
-    (s .pre, part-length (s .args .set .count) (s .pre .countLimits .1) ∙ ap (λ n. 2 * n) (sym (entries-two (s .args .set))))
+    (s .pre, part-length (s .args .set .count) (s .pre .formed .countLimits .1) ∙ ap (λ n. 2 * n) (sym (entries-two (s .args .set))))
 
 same-length : tie.Need-same-length
 same-length c = search needs

@@ -9,7 +9,7 @@ use lib.ListN.{length}
 use borrow.Author.Tests.{lt-ltb, le-ltb}
 use borrow.Author.Needs.{needs}
 use Rattle.theory.specs.Lists.{padded}
-use Rattle.model.specs.Validity.{valid, Valid}
+use Rattle.model.specs.Validity.{valid, WellFormed}
 use Rattle.model.specs.declared.RuleSet.{RuleSet}
 use Rattle.model.proofs.LoopLaws.{failed, passed}
 use Rattle.model.proofs.ValidityLaws.{valid-iff}
@@ -62,7 +62,7 @@ put-file-requires : tie.Need-put-file-requires
 put-file-requires c κs =
     let set = c .before .before .before .before .args .set in
     let t = passed (c .before .before .is-valid .ensures) (c .before .if1 .left) in
-    let v : Valid set = valid-iff set .0 t in
+    let v : WellFormed set = valid-iff set .0 t .formed in
     (v .positionLimits .0, v .positionLimits .1, v .countLimits .1, omega (arith, render-bound set t))
 
 fill-from-requires-2 : tie.Need-fill-from-requires-2

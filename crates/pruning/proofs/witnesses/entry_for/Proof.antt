@@ -9,7 +9,7 @@ use borrow.Author.Tests.{eq-eqb, ne-eqb}
 use borrow.Author.Needs.{needs}
 use Rattle.theory.specs.Sequences.{sequences}
 use Rattle.model.specs.Rules.{sequenceCost}
-use Rattle.model.specs.Validity.{Valid}
+use Rattle.model.specs.Validity.{WellFormed}
 use Rattle.model.specs.declared.RuleSet.{RuleSet}
 use Rattle.macros.specs.Composition.{composed, asVectors, linesOf}
 use Rattle.macros.specs.declared.Vectors.{Vectors}
@@ -21,7 +21,7 @@ use Rattle.pruning.proofs.EntryLaws.{built-found}
 use Rattle.pruning.proofs.witnesses.entry_for.Statement.{statement}
 use Rattle.pruning.proofs.witnesses.entry_for.Tie as tie
 
-module _ (set : RuleSet) (valid : Valid set) (i : ℕ) (h : i < tableEntries set 3) (vectors : Vectors) (cost : ℕ)
+module _ (set : RuleSet) (valid : WellFormed set) (i : ℕ) (h : i < tableEntries set 3) (vectors : Vectors) (cost : ℕ)
     (v : vectors ≡ asVectors (composed set (sequenceAt set 3 i))) (c : cost ≡ sequenceCost set (sequenceAt set 3 i))
     (f : ℕ) (e : f ≡ firstBehind (set .count) 0 (serves set (linesOf vectors) cost) (sequences (set .count) 3)) where
   -- what is found

@@ -37,7 +37,7 @@ ready c =
     checked-ready (s .args .set) (queryOf s) (⊎-elim (λ w. inl (e ∙ w .1 .left)) (λ w. inr (e ∙ w .left)) (c .if1 .came))
 
 start-fits-requires : tie.Need-start-fits-requires
-start-fits-requires c κs = ready c .0 .positionLimits .1
+start-fits-requires c κs = ready c .0 .formed .positionLimits .1
 
 returns-2 : tie.Need-returns-2
 returns-2 c =
@@ -50,7 +50,7 @@ start-fits : (c : tie.Else3) → let s = startOf (c .before .before) in startFit
 start-fits c = passed (c .before .start-fits .ensures) (c .if3 .left)
 
 goal-fits-requires : tie.Need-goal-fits-requires
-goal-fits-requires c κs = ready (c .before .before) .0 .positionLimits .1
+goal-fits-requires c κs = ready (c .before .before) .0 .formed .positionLimits .1
 
 returns-3 : tie.Need-returns-3
 returns-3 c =
