@@ -69,14 +69,14 @@ module _ (set : RuleSet) (query : Query) (notRefused : NotRefused set query) (bl
   -- the visits, by steps, costs and look-up
   abbrev visits : (ℕ → State → Option State) → (ℕ → ℕ) → Progress
   visits step cost =
-      exploreWith step (set .count) (may cost) (λ q. noted (query .goal) (query .stepLimit) (costOf cost q) q) (query .maxMoves) [] (startState query) noProgress
+      exploreWith step (set .count) (λ q _. may cost q) (λ q. noted (query .goal) (query .stepLimit) (costOf cost q) q) (query .maxMoves) [] (startState query) noProgress
 
   -- what is visited by the look-up is what the table's marks allow
-  visited-list : visitedBy set query ≡ explore (stepOf set) (set .count) (may (ruleCost set)) (query .maxMoves) [] (startState query)
+  visited-list : visitedBy set query ≡ explore (stepOf set) (set .count) (λ q _. may (ruleCost set) q) (query .maxMoves) [] (startState query)
   unfolding visitedBy
   visited-list =
       visited-explore-next (stepOf set) (ruleCost set) (set .count) marks (startState query) (query .maxCost) (query .reach) short (query .maxMoves)
-      ∙ explore-same (stepOf set) (set .count) (allowedNext (ruleCost set) marks (query .maxCost) (query .reach)) (may (ruleCost set)) (λ q r k h. agree (q ++ (r ∷ [])) k) (query .maxMoves) []
+      ∙ explore-same (stepOf set) (set .count) (λ q _. allowedNext (ruleCost set) marks (query .maxCost) (query .reach) q) (λ q _. may (ruleCost set) q) (λ q r s t k h p. agree (q ++ (r ∷ [])) k) (query .maxMoves) []
       (startState query) tt (and-join (le-leb 0 (query .maxCost) zero-le) refl)
     where
       short : (b : Sequence) → query .reach < length b → marks b ≡ false
@@ -91,7 +91,7 @@ module _ (set : RuleSet) (query : Query) (notRefused : NotRefused set query) (bl
   -- the visits are the fold over it
   visits-fold : visits (stepOf set) (ruleCost set) ≡ foldOver note noProgress (visitedBy set query)
   visits-fold =
-      explore-fold (stepOf set) (set .count) (may (ruleCost set)) (startState query) (λ q. noted (query .goal) (query .stepLimit) (costOf (ruleCost set) q) q) note agree (query .maxMoves) []
+      explore-fold (stepOf set) (set .count) (λ q _. may (ruleCost set) q) (startState query) (λ q. noted (query .goal) (query .stepLimit) (costOf (ruleCost set) q) q) note agree (query .maxMoves) []
       (startState query) noProgress refl
       ∙ ap (foldOver note noProgress) (sym visited-list)
     where

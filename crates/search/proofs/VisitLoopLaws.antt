@@ -36,13 +36,16 @@ fold-fixed f b [] h = refl
 fold-fixed f b (a ∷ l) h = ap (λ x. foldOver f x l) (h a) ∙ fold-fixed f b l h
 
 -- and so does what no state changes that a rule may lead to
-enter-fixed : {A C : Type 0} (c : C) (b : Bool) (o : Option A) (visit : A → C) → ((t : A) → visit t ≡ c) → enterWith c b o visit ≡ c
-enter-fixed c b none visit h = refl
-enter-fixed c true (some t) visit h = h t
-enter-fixed c false (some t) visit h = refl
+enter-fixed : {A C : Type 0} (c : C) (test : A → Bool) (o : Option A) (visit : A → C) → ((t : A) → visit t ≡ c) → enterWith c test o visit ≡ c
+enter-fixed c test none visit h = refl
+enter-fixed {A} {C} c test (some t) visit h = go (test t)
+  where
+    go : (b : Bool) → cond b (visit t) c ≡ c
+    go true = h t
+    go false = refl
 
 -- where a test decides whether there is a state, the two tests decide together
-enter-only : {A C : Type 0} (c : C) (b a : Bool) (t : A) (visit : A → C) → enterWith c b (onlyIf a t) visit ≡ cond (b && a) (visit t) c
+enter-only : {A C : Type 0} (c : C) (b a : Bool) (t : A) (visit : A → C) → enterWith c (λ _. b) (onlyIf a t) visit ≡ cond (b && a) (visit t) c
 enter-only c true true t visit = refl
 enter-only c false true t visit = refl
 enter-only c true false t visit = refl
@@ -66,7 +69,7 @@ module _ (conditions effects : List (List ℕ)) (costs blocked goal : List ℕ) 
 
   -- what rule r behind q makes of the progress, with n moves left behind it
   abbrev byRule : ℕ → Sequence → State → ℕ → Progress → Progress
-  byRule n q s r c = enterWith c (mayGoOn costs blocked limits (q ++ (r ∷ []))) (lentStep conditions effects r s) (λ t. visits n (q ++ (r ∷ [])) t c)
+  byRule n q s r c = enterWith c (λ _. mayGoOn costs blocked limits (q ++ (r ∷ []))) (lentStep conditions effects r s) (λ t. visits n (q ++ (r ∷ [])) t c)
 
   -- what the rules from place k on make of it
   pub restFrom : ℕ → Sequence → State → ℕ → Progress → Progress
@@ -95,13 +98,13 @@ module _ (conditions effects : List (List ℕ)) (costs blocked goal : List ℕ) 
   visits-exceeded zero q s c h = noted-exceeded goal (limits .«step_limit») (costOf (lentCost costs) q) q s c h
   visits-exceeded (suc n) q s c h =
       ap (λ x. foldOver (byRule n q s) x (numbersFrom 1 (limits .count))) (noted-exceeded goal (limits .«step_limit») (costOf (lentCost costs) q) q s c h)
-      ∙ fold-fixed (byRule n q s) c (numbersFrom 1 (limits .count)) (λ r. enter-fixed c (mayGoOn costs blocked limits (q ++ (r ∷ []))) (lentStep conditions effects r s) _ (λ t. visits-exceeded n (q ++ (r ∷ [])) t c h))
+      ∙ fold-fixed (byRule n q s) c (numbersFrom 1 (limits .count)) (λ r. enter-fixed c (λ _. mayGoOn costs blocked limits (q ++ (r ∷ []))) (lentStep conditions effects r s) _ (λ t. visits-exceeded n (q ++ (r ∷ [])) t c h))
 
   pub rest-exceeded : (n : ℕ) (q : Sequence) (s : State) (k : ℕ) (c : Progress) → c .exceeded ≡ true → restFrom n q s k c ≡ c
   unfolding restFrom
   rest-exceeded n q s k c h =
       fold-fixed (byRule n q s) c (numbersFrom (k + 1) (limits .count - k))
-      (λ r. enter-fixed c (mayGoOn costs blocked limits (q ++ (r ∷ []))) (lentStep conditions effects r s) _ (λ t. visits-exceeded n (q ++ (r ∷ [])) t c h))
+      (λ r. enter-fixed c (λ _. mayGoOn costs blocked limits (q ++ (r ∷ []))) (lentStep conditions effects r s) _ (λ t. visits-exceeded n (q ++ (r ∷ [])) t c h))
 
   -- one turn
   turn : (n : ℕ) (q : Sequence) (s : State) (k : ℕ) (c : Progress) → k < limits .count → restFrom n q s k c ≡ restFrom n q s (k + 1) (byRule n q s (k + 1) c)
@@ -129,7 +132,7 @@ module _ (conditions effects : List (List ℕ)) (costs blocked goal : List ℕ) 
       unfolding lentStep
       by-next goes e =
           let i : k + 1 - 1 ≡ k = omega arith in
-          ap₂ (λ b j. enterWith c b (onlyIf (applicable (getD conditions j []) s) (successor (getD effects j []) s)) (λ t. visits n (q ++ ((k + 1) ∷ [])) t c)) (may-next k) i
+          ap₂ (λ b j. enterWith c (λ _. b) (onlyIf (applicable (getD conditions j []) s) (successor (getD effects j []) s)) (λ t. visits n (q ++ ((k + 1) ∷ [])) t c)) (may-next k) i
           ∙ enter-only c _ (applicable (getD conditions k []) s) (successor (getD effects k []) s) (λ t. visits n (q ++ ((k + 1) ∷ [])) t c)
           ∙ ap (λ b. cond b (visits n (q ++ ((k + 1) ∷ [])) (successor (getD effects k []) s) c) c) e
 

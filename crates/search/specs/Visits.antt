@@ -65,7 +65,7 @@ noProgress = record { steps = 0; exceeded = false; best = noBest }
 -- the progress after the sequence q, which has led to the state s, and all that extends it by at most n rules
 unfoldable pub visitsFrom : List (List ℕ) → List (List ℕ) → List ℕ → List ℕ → List ℕ → Limits → ℕ → Sequence → State → Progress → Progress
 visitsFrom conditions effects costs blocked goal limits =
-    exploreWith (lentStep conditions effects) (limits .count) (mayGoOn costs blocked limits) (λ q. noted goal (limits .«step_limit») (costOf (lentCost costs) q) q)
+    exploreWith (lentStep conditions effects) (limits .count) (λ q _. mayGoOn costs blocked limits q) (λ q. noted goal (limits .«step_limit») (costOf (lentCost costs) q) q)
 
 -- ── What the recursion asks ──────────────────────────────────────────────────────────────────────
 

@@ -6,7 +6,7 @@ use mathlib.Core.Bool.{Bool, true, false, cond, _&&_, _||_}
 use mathlib.Core.Option.{Option, some, none}
 use mathlib.Core.List.{List, [], _∷_}
 use mathlib.Core.List.{List·Memᴰ·head, List·Memᴰ·tail, List·Memᴰ·not-nil}
-use Prim.Native.Nat.{ℕ, _<_}
+use Prim.Native.Nat.{ℕ, _≤_, _<_}
 use native.Mathlib.Omega.{arith}
 use lib.Dec.{ltb, eqb}
 use lib.ListN.{length}
@@ -14,7 +14,7 @@ use borrow.Author.Tests.{ltb-true, lt-ltb, eqb-true, eq-eqb, le-leb, ltb-false}
 use Rattle.theory.specs.Lists.{_∈_, keep, keepIf, Pairwise, isSome}
 use Rattle.theory.specs.Sequences.{Sequence, run, costOf, sequences, depthFirst}
 use Rattle.theory.specs.Order.{LexBefore, Before}
-use Rattle.theory.specs.Pruning.{pruned, Closed, Justified}
+use Rattle.theory.specs.Pruning.{Closed, Justified}
 use Rattle.theory.specs.Plans.{reaches, isPlan, candidates, cheapest, Preferred, Least, allowed, isVisited, visited}
 use Rattle.theory.specs.Recursion.{better, improved, best}
 use Rattle.theory.proofs.ListLaws.{or-split, or-left, or-right, and-split, and-join, here, in-keep, of-keep, pairwise-keep, passes?, not-both}
@@ -120,47 +120,39 @@ module _ (cost : ℕ → ℕ) where
 
 -- ── The search's answer ──────────────────────────────────────────────────────────────────────────
 
-module _ {A : Type 0} (step : ℕ → A → Option A) (cost : ℕ → ℕ) (m : ℕ) (Valid : A → Type 0) (closed : Closed step m Valid)
-    (marked : Sequence → Bool) (justified : Justified step cost m Valid marked)
-    (start : A) (valid : Valid start) (goal : A → Bool) (maxMoves maxCost : ℕ) where
+-- a search that visits the sequences that pass a test answers with the cheapest plan of all, where those that pass can be run within the cost bound and the cheapest plan passes
+module _ {A : Type 0} (step : ℕ → A → Option A) (cost : ℕ → ℕ) (m : ℕ) (start : A) (goal : A → Bool) (maxMoves maxCost : ℕ) (good : Sequence → Bool)
+    (bounded : (q : Sequence) → good q ≡ true → costOf cost q ≤ maxCost)
+    (passes : (p : Sequence) → cheapest cost (candidates step cost m start goal maxMoves maxCost) ≡ some p → good p ≡ true) where
   abbrev plans : List Sequence
   plans = candidates step cost m start goal maxMoves maxCost
 
-  abbrev visits : List Sequence
-  visits = visited step cost m marked start maxMoves maxCost
-
   -- the plans that the search comes to
   abbrev found : List Sequence
-  found = keep (reaches step start goal) visits
+  found = keep (reaches step start goal) (keep good (depthFirst m maxMoves))
 
   found-ordered : Pairwise LexBefore found
-  found-ordered =
-      pairwise-keep LexBefore (reaches step start goal) visits
-      (pairwise-keep LexBefore (isVisited step cost marked start maxCost) (depthFirst m maxMoves) (depthFirst-ordered m maxMoves))
+  found-ordered = pairwise-keep LexBefore (reaches step start goal) (keep good (depthFirst m maxMoves)) (pairwise-keep LexBefore good (depthFirst m maxMoves) (depthFirst-ordered m maxMoves))
 
   -- they are plans
   found-plans : (q : Sequence) → q ∈ found → q ∈ plans
   found-plans q d =
-      let u = of-keep (reaches step start goal) visits d in
-      let v = of-keep (isVisited step cost marked start maxCost) (depthFirst m maxMoves) (u .0) in
+      let u = of-keep (reaches step start goal) (keep good (depthFirst m maxMoves)) d in
+      let v = of-keep good (depthFirst m maxMoves) (u .0) in
       let w = of-depthFirst m maxMoves (v .0) in
-      let b = and-split (isSome (run step q start)) (allowed cost marked maxCost q) (v .1) in
-      let c = of-allowed cost marked maxCost q (b .1) in
-      in-keep (isPlan step cost start goal maxCost) (in-sequences m maxMoves q (w .0) (w .1)) (and-join (u .1) (le-leb (costOf cost q) maxCost (c .0)))
+      in-keep (isPlan step cost start goal maxCost) (in-sequences m maxMoves q (w .0) (w .1)) (and-join (u .1) (le-leb (costOf cost q) maxCost (bounded q (v .1))))
 
-  -- and a plan that is not pruned is among them
-  plans-found : (q : Sequence) → q ∈ plans → pruned marked q ≡ false → q ∈ found
+  -- and a plan that passes is among them
+  plans-found : (q : Sequence) → q ∈ plans → good q ≡ true → q ∈ found
   plans-found q d h =
       let u = of-keep (isPlan step cost start goal maxCost) (sequences m maxMoves) d in
       let w = of-sequences m maxMoves (u .0) in
       let t = of-plan step cost start goal maxCost q (u .1) in
-      in-keep (reaches step start goal)
-      (in-keep (isVisited step cost marked start maxCost) (in-depthFirst m maxMoves q (w .0) (w .1)) (and-join (ap isSome (t .1)) (in-allowed cost marked maxCost q (t .3) h)))
-      (in-endsIn goal (run step q start) (t .0) (t .1) (t .2))
+      in-keep (reaches step start goal) (in-keep good (in-depthFirst m maxMoves q (w .0) (w .1)) h) (in-endsIn goal (run step q start) (t .0) (t .1) (t .2))
 
   -- the search answers with the cheapest plan; where there is no plan, with none
-  pub best-cheapest : best cost (reaches step start goal) none (visited step cost m marked start maxMoves maxCost) ≡ cheapest cost (candidates step cost m start goal maxMoves maxCost)
-  best-cheapest = best-keep cost (reaches step start goal) none visits ∙ go (cheapest cost plans) refl
+  pub best-of-good : best cost (reaches step start goal) none (keep good (depthFirst m maxMoves)) ≡ cheapest cost (candidates step cost m start goal maxMoves maxCost)
+  best-of-good = best-keep cost (reaches step start goal) none (keep good (depthFirst m maxMoves)) ∙ go (cheapest cost plans) refl
     where
       empty : (l : List Sequence) → ((q : Sequence) → q ∈ l → ⊥) → bestOf cost none l ≡ none
       empty [] h = refl
@@ -168,10 +160,23 @@ module _ {A : Type 0} (step : ℕ → A → Option A) (cost : ℕ → ℕ) (m : 
 
       go : (o : Option Sequence) → cheapest cost plans ≡ o → bestOf cost none found ≡ o
       go none e = empty found (λ q d. List·Memᴰ·not-nil (subst (λ l. q ∈ l) (cheapest-none cost plans e) (found-plans q d)))
-      go (some p) e = bestOf-finds cost found found-ordered p (plans-found p (least .0) safe, λ q d. least .1 q (found-plans q d))
+      go (some p) e = bestOf-finds cost found found-ordered p (plans-found p (least .0) (passes p e), λ q d. least .1 q (found-plans q d))
         where
           least : Least cost plans p
           least = cheapest-least cost plans (pairwise-keep Before (isPlan step cost start goal maxCost) (sequences m maxMoves) (sequences-ordered m maxMoves)) p e
 
-          safe : pruned marked p ≡ false
-          safe = cheapest-not-pruned step cost m Valid closed marked justified start goal maxMoves maxCost p valid e
+-- and so does the search that visits what justified marks leave
+module _ {A : Type 0} (step : ℕ → A → Option A) (cost : ℕ → ℕ) (m : ℕ) (Valid : A → Type 0) (closed : Closed step m Valid)
+    (marked : Sequence → Bool) (justified : Justified step cost m Valid marked)
+    (start : A) (valid : Valid start) (goal : A → Bool) (maxMoves maxCost : ℕ) where
+  -- the cheapest plan is visited
+  pub cheapest-visited : (p : Sequence) → cheapest cost (candidates step cost m start goal maxMoves maxCost) ≡ some p → isVisited step cost marked start maxCost p ≡ true
+  cheapest-visited p e =
+      let d = cheapest-least cost (candidates step cost m start goal maxMoves maxCost) (pairwise-keep Before (isPlan step cost start goal maxCost) (sequences m maxMoves) (sequences-ordered m maxMoves)) p e .0 in
+      let t = of-plan step cost start goal maxCost p (of-keep (isPlan step cost start goal maxCost) (sequences m maxMoves) d .1) in
+      and-join (ap isSome (t .1)) (in-allowed cost marked maxCost p (t .3) (cheapest-not-pruned step cost m Valid closed marked justified start goal maxMoves maxCost p valid e))
+
+  pub best-cheapest : best cost (reaches step start goal) none (visited step cost m marked start maxMoves maxCost) ≡ cheapest cost (candidates step cost m start goal maxMoves maxCost)
+  best-cheapest =
+      best-of-good step cost m start goal maxMoves maxCost (isVisited step cost marked start maxCost)
+      (λ q h. of-allowed cost marked maxCost q (and-split (isSome (run step q start)) (allowed cost marked maxCost q) h .1) .0) cheapest-visited

@@ -3,7 +3,7 @@
 -- Assumes nothing.
 use mathlib.Core.Path.{_≡_, refl, sym, ap, _∙_, ap₂, subst, fun-ext}
 use mathlib.Core.Logic.{_⊎_, inl, inr}
-use mathlib.Core.Bool.{Bool, true, false, not, _&&_, _||_, and-false}
+use mathlib.Core.Bool.{Bool, true, false, not, cond, _&&_, _||_}
 use mathlib.Core.Option.{Option, some, none}
 use mathlib.Core.List.{List, [], _∷_, _++_, map, map-append, append-assoc, append-nil}
 use mathlib.Core.List.{Memᴰ·of-map}
@@ -42,10 +42,86 @@ module _ (cost : ℕ → ℕ) (marked : Sequence → Bool) (maxCost : ℕ) where
       unpruned (inl e) = not-both (pruned-around marked [] x y e) (w .1)
       unpruned (inr e) = e
 
-module _ {A : Type 0} (step : ℕ → A → Option A) (cost : ℕ → ℕ) (m : ℕ) (marked : Sequence → Bool) (start : A) (maxCost : ℕ) where
-  abbrev visited? : Sequence → Bool
-  visited? = isVisited step cost marked start maxCost
+-- a test of sequences that passes on to prefixes, and that is told, for one more rule, by the longer sequence and the state it leads to
+pub record Inherited {A : Type 0} (step : ℕ → A → Option A) (start : A) (good : Sequence → Bool) (may : Sequence → A → Bool) : Type 0 where
+  pub prefix : (x y : Sequence) → good (x ++ y) ≡ true → good x ≡ true
+  pub runs : (q : Sequence) → good q ≡ true → isSome (run step q start) ≡ true
+  pub next : (q : Sequence) (r : ℕ) (s t : A) → good q ≡ true → run step q start ≡ some s → step r s ≡ some t → good (q ++ (r ∷ [])) ≡ may (q ++ (r ∷ [])) t
 
+module _ {A : Type 0} (step : ℕ → A → Option A) (m : ℕ) (start : A) (good : Sequence → Bool) (may : Sequence → A → Bool) (inherited : Inherited step start good may) where
+  -- no extension of what does not pass passes
+  blocked : (x : Sequence) (l : List Sequence) → good x ≡ false → keep good (map (λ w. x ++ w) l) ≡ []
+  blocked x l h = keep-none good (map (λ w. x ++ w) l) each
+    where
+      each : (a : Sequence) → a ∈ map (λ w. x ++ w) l → good a ≡ false
+      each a d = go (passes? (good a)) (Memᴰ·of-map (λ (w : Sequence). x ++ w) l d)
+        where
+          go : (good a ≡ true) ⊎ (good a ≡ false) → ((w : Sequence) × (w ∈ l) × ((x ++ w) ≡ a)) → good a ≡ false
+          go (inl e) w = not-both (inherited .prefix x (w .0) (subst (λ b. good b ≡ true) (sym (w .2)) e)) h
+          go (inr e) w = e
+
+  -- q itself comes first
+  first : (q : Sequence) (l : List Sequence) → good q ≡ true → keep good ((q ++ []) ∷ l) ≡ q ∷ keep good l
+  first q l h = ap (λ p. keep good (p ∷ l)) (append-nil q) ∙ keep-pass good q l h
+
+  -- the extensions of q by r, regrouped
+  regroup : (q : Sequence) (r : ℕ) (l : List Sequence) → map (λ w. q ++ w) (withFirst l r) ≡ map (λ w. q ++ (r ∷ []) ++ w) l
+  regroup q r l = map-of-map (λ (w : Sequence). q ++ w) (λ (w : Sequence). r ∷ w) l ∙ ap (λ (f : Sequence → Sequence). map f l) (fun-ext (λ w. sym (append-assoc q (r ∷ []) w)))
+
+  -- the recursion from a sequence q that passes, at state s, with n moves left, lists its extensions that pass
+  abbrev Enumerates : ℕ → Sequence → A → Type 0
+  Enumerates n q s = keep good (map (λ w. q ++ w) (depthFirst m n)) ≡ explore step m may n q s
+
+  -- the extensions by the rule r
+  good-child : (n : ℕ) → ((q : Sequence) (s : A) → run step q start ≡ some s → good q ≡ true → Enumerates n q s)
+      → (q : Sequence) (s : A) → run step q start ≡ some s → good q ≡ true → (r : ℕ)
+      → keep good (map (λ w. q ++ w) (withFirst (depthFirst m n) r)) ≡ enter (may (q ++ (r ∷ []))) (step r s) (explore step m may n (q ++ (r ∷ [])))
+  good-child n ih q s e h r = ap (keep good) (regroup q r (depthFirst m n)) ∙ go (step r s) refl
+    where
+      next : Sequence
+      next = q ++ (r ∷ [])
+
+      runIn : run step next start ≡ andThen (step r s) some
+      runIn = run-append step q (r ∷ []) start ∙ ap (λ o. andThen o (run step (r ∷ []))) e
+
+      ended : (t : A) → step r s ≡ some t → (b : Bool) → good next ≡ b → keep good (map (λ w. next ++ w) (depthFirst m n)) ≡ cond b (explore step m may n next t) []
+      ended t p true k = ih next t (runIn ∙ ap (λ o. andThen o some) p) k
+      ended t p false k = blocked next (depthFirst m n) k
+
+      stopped : step r s ≡ none → (good next ≡ true) ⊎ (good next ≡ false) → good next ≡ false
+      stopped p (inl k) = not-both (sym (ap isSome (runIn ∙ ap (λ o. andThen o some) p)) ∙ inherited .runs next k) refl
+      stopped p (inr k) = k
+
+      go : (o : Option A) → step r s ≡ o → keep good (map (λ w. next ++ w) (depthFirst m n)) ≡ enter (may next) o (explore step m may n next)
+      go none p = blocked next (depthFirst m n) (stopped p (passes? (good next)))
+      go (some t) p = ended t p (may next t) (inherited .next q r s t h e p)
+
+  good-from : (n : ℕ) (q : Sequence) (s : A) → run step q start ≡ some s → good q ≡ true → Enumerates n q s
+  good-from zero q s e h = first q [] h
+  good-from (suc n) q s e h =
+      first q (map (λ w. q ++ w) (flat (withFirst (depthFirst m n)) (numbers m))) h
+      ∙ ap {B = List Sequence} (λ l. q ∷ l) (spread ∙ flat-same child visit (numbers m) (λ r d. good-child n (good-from n) q s e h r))
+    where
+      child : ℕ → List Sequence
+      child r = keep good (map (λ w. q ++ w) (withFirst (depthFirst m n) r))
+
+      visit : ℕ → List Sequence
+      visit r = enter (may (q ++ (r ∷ []))) (step r s) (explore step m may n (q ++ (r ∷ [])))
+
+      spread : keep good (map (λ w. q ++ w) (flat (withFirst (depthFirst m n)) (numbers m))) ≡ flat child (numbers m)
+      spread =
+          ap (keep good) (map-flat (λ (w : Sequence). q ++ w) (withFirst (depthFirst m n)) (numbers m))
+          ∙ keep-flat good (λ r. map (λ w. q ++ w) (withFirst (depthFirst m n) r)) (numbers m)
+
+  -- the recursion from the empty sequence, where that passes, visits what passes, in that order
+  pub good-explore : (maxMoves : ℕ) → good [] ≡ true → keep good (depthFirst m maxMoves) ≡ explore step m may maxMoves [] start
+  good-explore maxMoves h = ap (keep good) (sym (map-id (depthFirst m maxMoves))) ∙ good-from maxMoves [] start refl h
+
+  -- where the empty sequence does not pass, nothing does
+  pub good-none : (maxMoves : ℕ) → good [] ≡ false → keep good (depthFirst m maxMoves) ≡ []
+  good-none maxMoves h = ap (keep good) (sym (map-id (depthFirst m maxMoves))) ∙ blocked [] (depthFirst m maxMoves) h
+
+module _ {A : Type 0} (step : ℕ → A → Option A) (cost : ℕ → ℕ) (m : ℕ) (marked : Sequence → Bool) (start : A) (maxCost : ℕ) where
   abbrev may : Sequence → Bool
   may = allowed cost marked maxCost
 
@@ -56,66 +132,16 @@ module _ {A : Type 0} (step : ℕ → A → Option A) (cost : ℕ → ℕ) (m : 
       let u = run-split step x y start (t .0) (t .1) in
       and-join (ap isSome (u .1)) (allowed-prefix cost marked maxCost x y (w .1))
 
-  -- no extension of what is not visited is visited
-  blocked : (x : Sequence) (l : List Sequence) → visited? x ≡ false → keep visited? (map (λ w. x ++ w) l) ≡ []
-  blocked x l h = keep-none visited? (map (λ w. x ++ w) l) each
-    where
-      each : (a : Sequence) → a ∈ map (λ w. x ++ w) l → visited? a ≡ false
-      each a d = go (passes? (visited? a)) (Memᴰ·of-map (λ (w : Sequence). x ++ w) l d)
-        where
-          go : (visited? a ≡ true) ⊎ (visited? a ≡ false) → ((w : Sequence) × (w ∈ l) × ((x ++ w) ≡ a)) → visited? a ≡ false
-          go (inl e) w = not-both (visited-prefix x (w .0) (subst (λ b. visited? b ≡ true) (sym (w .2)) e)) h
-          go (inr e) w = e
-
-  -- q itself comes first
-  first : (q : Sequence) (s : A) (l : List Sequence) → run step q start ≡ some s → may q ≡ true → keep visited? ((q ++ []) ∷ l) ≡ q ∷ keep visited? l
-  first q s l e h = ap (λ p. keep visited? (p ∷ l)) (append-nil q) ∙ keep-pass visited? q l (and-join (ap isSome e) h)
-
-  -- the extensions of q by r, regrouped
-  regroup : (q : Sequence) (r : ℕ) (l : List Sequence) → map (λ w. q ++ w) (withFirst l r) ≡ map (λ w. q ++ (r ∷ []) ++ w) l
-  regroup q r l = map-of-map (λ (w : Sequence). q ++ w) (λ (w : Sequence). r ∷ w) l ∙ ap (λ (f : Sequence → Sequence). map f l) (fun-ext (λ w. sym (append-assoc q (r ∷ []) w)))
-
-  -- the recursion from a visited sequence q at state s, with n moves left, lists its visited extensions
-  abbrev Enumerates : ℕ → Sequence → A → Type 0
-  Enumerates n q s = keep visited? (map (λ w. q ++ w) (depthFirst m n)) ≡ explore step m may n q s
-
-  -- the extensions by the rule r
-  visited-child : (n : ℕ) → ((q : Sequence) (s : A) → run step q start ≡ some s → may q ≡ true → Enumerates n q s)
-      → (q : Sequence) (s : A) → run step q start ≡ some s → (r : ℕ)
-      → keep visited? (map (λ w. q ++ w) (withFirst (depthFirst m n) r)) ≡ enter (may (q ++ (r ∷ []))) (step r s) (explore step m may n (q ++ (r ∷ [])))
-  visited-child n ih q s e r = ap (keep visited?) (regroup q r (depthFirst m n)) ∙ go (step r s) refl (may next) refl
-    where
-      next : Sequence
-      next = q ++ (r ∷ [])
-
-      runIn : run step next start ≡ andThen (step r s) some
-      runIn = run-append step q (r ∷ []) start ∙ ap (λ o. andThen o (run step (r ∷ []))) e
-
-      go : (o : Option A) → step r s ≡ o → (b : Bool) → may next ≡ b → keep visited? (map (λ w. next ++ w) (depthFirst m n)) ≡ enter b o (explore step m may n next)
-      go none p b k = blocked next (depthFirst m n) (ap (λ o. isSome o && may next) (runIn ∙ ap (λ o. andThen o some) p))
-      go (some t) p true k = ih next t (runIn ∙ ap (λ o. andThen o some) p) k
-      go (some t) p false k = blocked next (depthFirst m n) (ap (λ b. isSome (run step next start) && b) k ∙ and-false (isSome (run step next start)))
-
-  visited-from : (n : ℕ) (q : Sequence) (s : A) → run step q start ≡ some s → may q ≡ true → Enumerates n q s
-  visited-from zero q s e h = first q s [] e h
-  visited-from (suc n) q s e h =
-      first q s (map (λ w. q ++ w) (flat (withFirst (depthFirst m n)) (numbers m))) e h
-      ∙ ap {B = List Sequence} (λ l. q ∷ l) (spread ∙ flat-same child visit (numbers m) (λ r d. visited-child n (visited-from n) q s e r))
-    where
-      child : ℕ → List Sequence
-      child r = keep visited? (map (λ w. q ++ w) (withFirst (depthFirst m n) r))
-
-      visit : ℕ → List Sequence
-      visit r = enter (may (q ++ (r ∷ []))) (step r s) (explore step m may n (q ++ (r ∷ [])))
-
-      spread : keep visited? (map (λ w. q ++ w) (flat (withFirst (depthFirst m n)) (numbers m))) ≡ flat child (numbers m)
-      spread =
-          ap (keep visited?) (map-flat (λ (w : Sequence). q ++ w) (withFirst (depthFirst m n)) (numbers m))
-          ∙ keep-flat visited? (λ r. map (λ w. q ++ w) (withFirst (depthFirst m n) r)) (numbers m)
+  visited-inherited : Inherited step start (isVisited step cost marked start maxCost) (λ q _. may q)
+  visited-inherited = record {
+    prefix = visited-prefix;
+    runs = λ q h. and-split (isSome (run step q start)) (may q) h .0;
+    next = λ q r s t h e p. ap (λ o. isSome o && may (q ++ (r ∷ []))) (run-append step q (r ∷ []) start ∙ ap (λ o. andThen o (run step (r ∷ []))) e ∙ ap (λ o. andThen o some) p);
+  }
 
   -- the recursion from the empty sequence at the start visits what `visited` lists, in that order
-  pub visited-explore : (maxMoves : ℕ) → visited step cost m marked start maxMoves maxCost ≡ explore step m (allowed cost marked maxCost) maxMoves [] start
-  visited-explore maxMoves = ap (keep visited?) (sym (map-id (depthFirst m maxMoves))) ∙ visited-from maxMoves [] start refl (in-allowed cost marked maxCost [] zero-le refl)
+  pub visited-explore : (maxMoves : ℕ) → visited step cost m marked start maxMoves maxCost ≡ explore step m (λ q _. allowed cost marked maxCost q) maxMoves [] start
+  visited-explore maxMoves = good-explore step m start (isVisited step cost marked start maxCost) (λ q _. may q) visited-inherited maxMoves (in-allowed cost marked maxCost [] zero-le refl)
 
 -- ── The test of one more rule ────────────────────────────────────────────────────────────────────
 
@@ -160,44 +186,47 @@ module _ (marked : Sequence → Bool) where
 -- ── The recursion with the test of one more rule ─────────────────────────────────────────────────
 
 -- two tests that agree on one more rule to what may be visited lead the recursion the same way
-pub explore-same : {A : Type 0} (step : ℕ → A → Option A) (m : ℕ) (may may′ : Sequence → Bool)
-    → ((q : Sequence) (r : ℕ) → Numbered m (q ++ (r ∷ [])) → may q ≡ true → may (q ++ (r ∷ [])) ≡ may′ (q ++ (r ∷ [])))
-    → (n : ℕ) (q : Sequence) (s : A) → Numbered m q → may q ≡ true → explore step m may n q s ≡ explore step m may′ n q s
+pub explore-same : {A : Type 0} (step : ℕ → A → Option A) (m : ℕ) (may may′ : Sequence → A → Bool)
+    → ((q : Sequence) (r : ℕ) (s t : A) → Numbered m (q ++ (r ∷ [])) → may q s ≡ true → step r s ≡ some t → may (q ++ (r ∷ [])) t ≡ may′ (q ++ (r ∷ [])) t)
+    → (n : ℕ) (q : Sequence) (s : A) → Numbered m q → may q s ≡ true → explore step m may n q s ≡ explore step m may′ n q s
 explore-same step m may may′ agree zero q s k h = refl
 explore-same {A} step m may may′ agree (suc n) q s k h =
-    ap {B = List Sequence} (λ l. q ∷ l)
-    (flat-same (visit may) (visit may′) (numbers m)
-    (λ r d.
-    go r (step r s) (may (q ++ (r ∷ []))) refl (λ t. explore-same step m may may′ agree n (q ++ (r ∷ [])) t (longer r d))
-    ∙ ap (λ b. enter b (step r s) (explore step m may′ n (q ++ (r ∷ [])))) (agree q r (longer r d) h)))
+    ap {B = List Sequence} (λ l. q ∷ l) (flat-same (visit may) (visit may′) (numbers m) (λ r d. go r (longer r d) (λ t. explore-same step m may may′ agree n (q ++ (r ∷ [])) t (longer r d)) (step r s) refl))
   where
     longer : (r : ℕ) → r ∈ numbers m → Numbered m (q ++ (r ∷ []))
     longer r d = let w = of-numbers m d in numbered-append m q (r ∷ []) k (w .0, w .1, tt)
 
-    visit : (Sequence → Bool) → ℕ → List Sequence
+    visit : (Sequence → A → Bool) → ℕ → List Sequence
     visit f r = enter (f (q ++ (r ∷ []))) (step r s) (explore step m f n (q ++ (r ∷ [])))
 
-    go : (r : ℕ) (o : Option A) (b : Bool) → may (q ++ (r ∷ [])) ≡ b
-        → ((t : A) → may (q ++ (r ∷ [])) ≡ true → explore step m may n (q ++ (r ∷ [])) t ≡ explore step m may′ n (q ++ (r ∷ [])) t)
-        → enter b o (explore step m may n (q ++ (r ∷ []))) ≡ enter b o (explore step m may′ n (q ++ (r ∷ [])))
-    go r none b e ih = refl
-    go r (some t) true e ih = ih t e
-    go r (some t) false e ih = refl
+    Same : ℕ → A → Type 0
+    Same r t = may (q ++ (r ∷ [])) t ≡ true → explore step m may n (q ++ (r ∷ [])) t ≡ explore step m may′ n (q ++ (r ∷ [])) t
+
+    tested : (r : ℕ) (t : A) → Same r t → (b : Bool) → may (q ++ (r ∷ [])) t ≡ b
+        → cond b (explore step m may n (q ++ (r ∷ [])) t) [] ≡ cond b (explore step m may′ n (q ++ (r ∷ [])) t) []
+    tested r t ih true e = ih e
+    tested r t ih false e = refl
+
+    go : (r : ℕ) → Numbered m (q ++ (r ∷ [])) → ((t : A) → Same r t) → (o : Option A) → step r s ≡ o
+        → enter (may (q ++ (r ∷ []))) o (explore step m may n (q ++ (r ∷ []))) ≡ enter (may′ (q ++ (r ∷ []))) o (explore step m may′ n (q ++ (r ∷ [])))
+    go r l ih none p = refl
+    go r l ih (some t) p = tested r t (ih t) (may (q ++ (r ∷ [])) t) refl ∙ ap (λ b. cond b (explore step m may′ n (q ++ (r ∷ [])) t) []) (agree q r s t l h p)
 
 -- where nothing longer than n is marked, the recursion may use that test
 pub visited-explore-next : {A : Type 0} (step : ℕ → A → Option A) (cost : ℕ → ℕ) (m : ℕ) (marked : Sequence → Bool) (start : A) (maxCost n : ℕ)
     → ((b : Sequence) → n < length b → marked b ≡ false) → (maxMoves : ℕ)
-    → visited step cost m marked start maxMoves maxCost ≡ explore step m (allowedNext cost marked maxCost n) maxMoves [] start
+    → visited step cost m marked start maxMoves maxCost ≡ explore step m (λ q _. allowedNext cost marked maxCost n q) maxMoves [] start
 visited-explore-next step cost m marked start maxCost n short maxMoves =
     visited-explore step cost m marked start maxCost maxMoves
-    ∙ explore-same step m (allowed cost marked maxCost) (allowedNext cost marked maxCost n) (λ q r k. agree q r) maxMoves [] start tt (in-allowed cost marked maxCost [] zero-le refl)
+    ∙ explore-same step m (λ q _. allowed cost marked maxCost q) (λ q _. allowedNext cost marked maxCost n q) (λ q r s t k h p. agree q r h) maxMoves [] start tt
+    (in-allowed cost marked maxCost [] zero-le refl)
   where
     agree : (q : Sequence) (r : ℕ) → allowed cost marked maxCost q ≡ true → allowed cost marked maxCost (q ++ (r ∷ [])) ≡ allowedNext cost marked maxCost n (q ++ (r ∷ []))
     agree q r h = ap (λ b. leb (costOf cost (q ++ (r ∷ []))) maxCost && not b) (pruned-next-short marked n short q r (of-allowed cost marked maxCost q h .1))
 
 -- ── The recursion that carries something along ───────────────────────────────────────────────────
 
-module _ {A C : Type 0} (step : ℕ → A → Option A) (m : ℕ) (may : Sequence → Bool) (start : A) (note : Sequence → A → C → C) (noteOf : Sequence → C → C)
+module _ {A C : Type 0} (step : ℕ → A → Option A) (m : ℕ) (may : Sequence → A → Bool) (start : A) (note : Sequence → A → C → C) (noteOf : Sequence → C → C)
     (agree : (q : Sequence) (s : A) (c : C) → run step q start ≡ some s → note q s c ≡ noteOf q c) where
   fold-flat : (f : ℕ → List Sequence) (rs : List ℕ) (c : C) → foldOver noteOf c (flat f rs) ≡ foldOver (λ r c′. foldOver noteOf c′ (f r)) c rs
   fold-flat f [] c = refl
@@ -209,7 +238,7 @@ module _ {A C : Type 0} (step : ℕ → A → Option A) (m : ℕ) (may : Sequenc
   fold-child : (n : ℕ) → Folds n → (q : Sequence) (s : A) → run step q start ≡ some s → (r : ℕ) (c : C)
       → enterWith c (may (q ++ (r ∷ []))) (step r s) (λ t. exploreWith step m may note n (q ++ (r ∷ [])) t c)
       ≡ foldOver noteOf c (enter (may (q ++ (r ∷ []))) (step r s) (explore step m may n (q ++ (r ∷ []))))
-  fold-child n ih q s e r c = go (step r s) refl (may next)
+  fold-child n ih q s e r c = go (step r s) refl
     where
       next : Sequence
       next = q ++ (r ∷ [])
@@ -217,10 +246,13 @@ module _ {A C : Type 0} (step : ℕ → A → Option A) (m : ℕ) (may : Sequenc
       runIn : run step next start ≡ andThen (step r s) some
       runIn = run-append step q (r ∷ []) start ∙ ap (λ o. andThen o (run step (r ∷ []))) e
 
-      go : (o : Option A) → step r s ≡ o → (b : Bool) → enterWith c b o (λ t. exploreWith step m may note n next t c) ≡ foldOver noteOf c (enter b o (explore step m may n next))
-      go none p b = refl
-      go (some t) p true = ih next t c (runIn ∙ ap (λ o. andThen o some) p)
-      go (some t) p false = refl
+      tested : (t : A) → step r s ≡ some t → (b : Bool) → cond b (exploreWith step m may note n next t c) c ≡ foldOver noteOf c (cond b (explore step m may n next t) [])
+      tested t p true = ih next t c (runIn ∙ ap (λ o. andThen o some) p)
+      tested t p false = refl
+
+      go : (o : Option A) → step r s ≡ o → enterWith c (may next) o (λ t. exploreWith step m may note n next t c) ≡ foldOver noteOf c (enter (may next) o (explore step m may n next))
+      go none p = refl
+      go (some t) p = tested t p (may next t)
 
   -- it is the fold over what the recursion visits, where the note can be told from the sequence
   pub explore-fold : (n : ℕ) (q : Sequence) (s : A) (c : C) → run step q start ≡ some s → exploreWith step m may note n q s c ≡ foldOver noteOf c (explore step m may n q s)

@@ -1,5 +1,5 @@
 -- How a recursive search may go about it. No promise of a public call mentions this file; the laws in proofs/ equate it with `visited` and `cheapest`.
-use mathlib.Core.Bool.{Bool, true, false, not, cond, _&&_, _||_}
+use mathlib.Core.Bool.{Bool, not, cond, _&&_, _||_}
 use mathlib.Core.Option.{Option, some, none}
 use mathlib.Core.List.{List, [], _∷_, _++_}
 use Prim.Native.Nat.{ℕ, zero, suc, _-_}
@@ -10,15 +10,14 @@ use Rattle.theory.specs.Sequences.{Sequence, costOf, numbers}
 
 -- ── The visited sequences ────────────────────────────────────────────────────────────────────────
 
--- go on from the state that a rule leads to, where there is one and the test passes
-abbrev pub enter : {A : Type 0} → Bool → Option A → (A → List Sequence) → List Sequence
-enter b none visit = []
-enter true (some t) visit = visit t
-enter false (some t) visit = []
+-- go on from the state that a rule leads to, where there is one and it passes the test
+abbrev pub enter : {A : Type 0} → (A → Bool) → Option A → (A → List Sequence) → List Sequence
+enter test none visit = []
+enter test (some t) visit = cond (test t) (visit t) []
 
 -- the search as a recursion: at the sequence q, which has led to the state s, with n moves left.
--- `may` tests whether it may go on to a sequence
-abbrev pub explore : {A : Type 0} → (ℕ → A → Option A) → ℕ → (Sequence → Bool) → ℕ → Sequence → A → List Sequence
+-- `may` tests whether it may go on to a sequence, which leads to a state
+abbrev pub explore : {A : Type 0} → (ℕ → A → Option A) → ℕ → (Sequence → A → Bool) → ℕ → Sequence → A → List Sequence
 explore step m may zero q s = q ∷ []
 explore step m may (suc n) q s = q ∷ flat (λ r. enter (may (q ++ (r ∷ []))) (step r s) (explore step m may n (q ++ (r ∷ [])))) (numbers m)
 
@@ -62,14 +61,13 @@ best cost good = foldOver (bestAfter cost good)
 
 -- ── The recursion that carries something along ───────────────────────────────────────────────────
 
--- go on from the state that a rule leads to, where there is one and the test passes; else keep c
-abbrev pub enterWith : {A C : Type 0} → C → Bool → Option A → (A → C) → C
-enterWith c b none visit = c
-enterWith c true (some t) visit = visit t
-enterWith c false (some t) visit = c
+-- go on from the state that a rule leads to, where there is one and it passes the test; else keep c
+abbrev pub enterWith : {A C : Type 0} → C → (A → Bool) → Option A → (A → C) → C
+enterWith c test none visit = c
+enterWith c test (some t) visit = cond (test t) (visit t) c
 
 -- the search as a recursion that carries c along: `note` says what a sequence, which has led to a state, makes of it
-abbrev pub exploreWith : {A C : Type 0} → (ℕ → A → Option A) → ℕ → (Sequence → Bool) → (Sequence → A → C → C) → ℕ → Sequence → A → C → C
+abbrev pub exploreWith : {A C : Type 0} → (ℕ → A → Option A) → ℕ → (Sequence → A → Bool) → (Sequence → A → C → C) → ℕ → Sequence → A → C → C
 exploreWith step m may note zero q s c = note q s c
 exploreWith step m may note (suc n) q s c =
     foldOver (λ r c′. enterWith c′ (may (q ++ (r ∷ []))) (step r s) (λ t. exploreWith step m may note n (q ++ (r ∷ [])) t c′)) (note q s c) (numbers m)
