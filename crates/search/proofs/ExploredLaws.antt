@@ -9,6 +9,7 @@ use Prim.Native.Nat.{ℕ, _-_, _<_, zero-le}
 use native.Mathlib.Omega.{arith}
 use lib.Dec.{leb, eqb}
 use lib.ListN.{length, getD, List·getD-map}
+use lib.Seq.{take-all}
 use borrow.Author.Tests.{le-leb}
 use Rattle.theory.specs.Lists.{onlyIf, foldOver}
 use Rattle.theory.specs.Sequences.{Sequence, run, costOf, Numbered}
@@ -114,7 +115,13 @@ module _ (set : RuleSet) (query : Query) (notRefused : NotRefused set query) (bl
   visits-explored =
       let w = fold-progress (ruleCost set) (query .stepLimit) good (visitedBy set query) in
       subst (Explored set query) (sym visits-fold)
-      (record { steps = w .0; exceeded = w .1; best = λ h. w .2 h ∙ ap (asBest (costOf (ruleCost set))) best-plan })
+      (record {
+        steps = w .0;
+        exceeded = w .1;
+        looked = w .2;
+        best = λ h. w .2 ∙ ap (λ l. asBest (costOf (ruleCost set)) (best (ruleCost set) good none l)) (take-all (query .stepLimit) (visitedBy set query) h) ∙ ap (asBest (costOf (ruleCost set))) best-plan;
+        floor = w .3;
+      })
 
   -- the whole search of a query that is not refused: the visits from the empty sequence on, over what is lent
   pub explored-whole : (limits : Limits) → limits ≡ record { positions = set .positions; count = set .count; reach = query .reach; «max_cost» = query .maxCost; «step_limit» = query .stepLimit }

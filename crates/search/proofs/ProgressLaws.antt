@@ -5,15 +5,16 @@ use mathlib.Core.Path.{_≡_, refl, sym, ap, _∙_, subst}
 use mathlib.Core.Bool.{Bool, true, false, cond, _&&_}
 use mathlib.Core.Option.{Option, some, none}
 use mathlib.Core.List.{List, [], _∷_}
-use Prim.Native.Nat.{ℕ, _+_, _≤_, min}
+use Prim.Native.Nat.{ℕ, zero, suc, _+_, _-_, _≤_, min}
 use native.Mathlib.Nat.{zero-add}
 use native.Mathlib.Omega.{arith}
 use lib.Dec.{ltb}
-use lib.ListN.{length}
+use lib.ListN.{length, take, drop}
 use borrow.Author.Tests.{ltb-true, ltb-false, lt-ltb, le-ltb}
 use Rattle.theory.specs.Lists.{foldOver}
 use Rattle.theory.specs.Sequences.{Sequence, costOf}
-use Rattle.theory.specs.Recursion.{better, improved, bestAfter, best}
+use Rattle.theory.specs.Recursion.{better, improved, bestAfter, best, leastCost}
+use Rattle.theory.proofs.FloorLaws.{least-min}
 use Rattle.model.specs.States.{State}
 use Rattle.queries.specs.Query.{meetsGoal}
 use Rattle.search.specs.Visits.{replaces, bestOf, noBest, bestAt, noted, noProgress, asBest}
@@ -27,8 +28,8 @@ module _ (cost : ℕ → ℕ) (limit : ℕ) where
 
   abbrev pub notedAs : Bool → Sequence → Progress → Progress
   notedAs good q p =
-      cond (p .exceeded) p
-      (cond (ltb (p .steps) limit) (record { steps = p .steps + 1; exceeded = false; best = bestAs good q (p .best) }) (record { steps = p .steps; exceeded = true; best = p .best }))
+      cond (ltb (p .steps) limit) (record { steps = p .steps + 1; exceeded = false; best = bestAs good q (p .best); floor = p .floor })
+      (record { steps = p .steps; exceeded = true; best = p .best; floor = min (p .floor) (costOf cost q) })
 
   -- that is what the search notes
   pub noted-as : (goal : List ℕ) (q : Sequence) (s : State) (p : Progress) → noted goal limit (costOf cost q) q s p ≡ notedAs (meetsGoal goal s) q p
@@ -40,9 +41,9 @@ module _ (cost : ℕ → ℕ) (limit : ℕ) where
     abbrev pub noteOf : Sequence → Progress → Progress
     noteOf q = notedAs (good q) q
 
-    -- the progress after n steps, with the best plan c
-    abbrev at : ℕ → Option Sequence → Progress
-    at n c = record { steps = n; exceeded = false; best = asBest (costOf cost) c }
+    -- the progress after n steps, with the best plan c and the floor f
+    abbrev at : ℕ → Option Sequence → ℕ → Progress
+    at n c f = record { steps = n; exceeded = false; best = asBest (costOf cost) c; floor = f }
 
     -- the best plan after q
     best-next : (q : Sequence) (c : Option Sequence) → bestAs (good q) q (asBest (costOf cost) c) ≡ asBest (costOf cost) (bestAfter cost good q c)
@@ -58,44 +59,62 @@ module _ (cost : ℕ → ℕ) (limit : ℕ) where
         go true (some p) = chosen (better cost q p) p
         go false c = refl
 
-    -- once the limit is exceeded nothing changes
-    fold-exceeded : (l : List Sequence) (n : ℕ) (b : Best) → foldOver noteOf (record { steps = n; exceeded = true; best = b }) l ≡ record { steps = n; exceeded = true; best = b }
-    fold-exceeded [] n b = refl
-    fold-exceeded (q ∷ l) n b = fold-exceeded l n b
+    -- once the limit is exceeded only the floor falls, to the least cost of what is met
+    fold-exceeded : (l : List Sequence) (n : ℕ) (b : Best) (f : ℕ) → limit ≤ n
+        → foldOver noteOf (record { steps = n; exceeded = true; best = b; floor = f }) l ≡ record { steps = n; exceeded = true; best = b; floor = leastCost cost f l }
+    fold-exceeded [] n b f h = refl
+    fold-exceeded (q ∷ l) n b f h =
+        ap (λ t. foldOver noteOf (cond t (record { steps = n + 1; exceeded = false; best = bestAs (good q) q b; floor = f }) (record { steps = n; exceeded = true; best = b; floor = min f (costOf cost q) })) l) (le-ltb n limit h)
+        ∙ fold-exceeded l n b (min f (costOf cost q)) h ∙ ap (λ g. record { steps = n; exceeded = true; best = b; floor = g }) (least-min cost f (costOf cost q) l)
 
     -- what the progress p is after n steps and the sequences of a list
-    abbrev Counts : ℕ → Option Sequence → List Sequence → Progress → Type 0
-    Counts n c l p =
-        (p .steps ≡ min (n + length l) limit) × (p .exceeded ≡ ltb limit (n + length l)) × (n + length l ≤ limit → p .best ≡ asBest (costOf cost) (best cost good c l))
+    abbrev Counts : ℕ → Option Sequence → ℕ → List Sequence → Progress → Type 0
+    Counts n c f l p =
+        (p .steps ≡ min (n + length l) limit) × (p .exceeded ≡ ltb limit (n + length l)) × (p .best ≡ asBest (costOf cost) (best cost good c (take (limit - n) l)))
+        × (p .floor ≡ leastCost cost f (drop (limit - n) l))
 
     -- from n steps within the limit, by induction over the list
-    fold-counts : (l : List Sequence) (n : ℕ) (c : Option Sequence) → n ≤ limit → Counts n c l (foldOver noteOf (at n c) l)
-    fold-counts [] n c h = (omega arith, sym (le-ltb limit (n + 0) (omega arith)), λ _. refl)
-    fold-counts (q ∷ l) n c h = go (ltb n limit) refl (fold-counts l (n + 1) (bestAfter cost good q c))
+    fold-counts : (l : List Sequence) (n : ℕ) (c : Option Sequence) (f : ℕ) → n ≤ limit → Counts n c f l (foldOver noteOf (at n c f) l)
+    fold-counts [] n c f h = (omega arith, sym (le-ltb limit (n + 0) (omega arith)), none-taken (limit - n), none-left (limit - n))
+      where
+        none-taken : (k : ℕ) → asBest (costOf cost) c ≡ asBest (costOf cost) (best cost good c (take k []))
+        none-taken zero = refl
+        none-taken (suc k) = refl
+
+        none-left : (k : ℕ) → f ≡ leastCost cost f (drop k [])
+        none-left zero = refl
+        none-left (suc k) = refl
+    fold-counts (q ∷ l) n c f h = go (ltb n limit) refl (fold-counts l (n + 1) (bestAfter cost good q c) f)
       where
         next : Bool → Progress
         next b =
-            cond b (record { steps = n + 1; exceeded = false; best = bestAs (good q) q (asBest (costOf cost) c) }) (record { steps = n; exceeded = true; best = asBest (costOf cost) c })
+            cond b (record { steps = n + 1; exceeded = false; best = bestAs (good q) q (asBest (costOf cost) c); floor = f })
+            (record { steps = n; exceeded = true; best = asBest (costOf cost) c; floor = min f (costOf cost q) })
 
-        go : (b : Bool) → ltb n limit ≡ b → (n + 1 ≤ limit → Counts (n + 1) (bestAfter cost good q c) l (foldOver noteOf (at (n + 1) (bestAfter cost good q c)) l))
-            → Counts n c (q ∷ l) (foldOver noteOf (next b) l)
+        go : (b : Bool) → ltb n limit ≡ b → (n + 1 ≤ limit → Counts (n + 1) (bestAfter cost good q c) f l (foldOver noteOf (at (n + 1) (bestAfter cost good q c) f) l))
+            → Counts n c f (q ∷ l) (foldOver noteOf (next b) l)
         go true e ih =
             let k = ltb-true n limit e in
             let w = ih (omega arith) in
             let s : (n + 1) + length l ≡ n + length (q ∷ l) = omega arith in
-            subst (λ (b : Best). Counts n c (q ∷ l) (foldOver noteOf (record { steps = n + 1; exceeded = false; best = b }) l)) (sym (best-next q c))
-            (w .0 ∙ ap (λ m. min m limit) s, w .1 ∙ ap (ltb limit) s, λ f. w .2 (omega arith))
+            let d : limit - n ≡ suc (limit - (n + 1)) = omega arith in
+            subst (λ (b : Best). Counts n c f (q ∷ l) (foldOver noteOf (record { steps = n + 1; exceeded = false; best = b; floor = f }) l)) (sym (best-next q c))
+            (w .0 ∙ ap (λ m. min m limit) s, w .1 ∙ ap (ltb limit) s, w .2 ∙ sym (ap (λ m. asBest (costOf cost) (best cost good c (take m (q ∷ l)))) d), w .3 ∙ sym (ap (λ m. leastCost cost f (drop m (q ∷ l))) d))
         go false e ih =
             let k = ltb-false n limit e in
-            subst (Counts n c (q ∷ l)) (sym (fold-exceeded l n (asBest (costOf cost) c))) (omega arith, sym (lt-ltb limit (n + length (q ∷ l)) (omega arith)), λ f. absurd (omega arith))
+            let d : limit - n ≡ 0 = omega arith in
+            subst (Counts n c f (q ∷ l)) (sym (fold-exceeded l n (asBest (costOf cost) c) (min f (costOf cost q)) k))
+            (omega arith, sym (lt-ltb limit (n + length (q ∷ l)) (omega arith)), sym (ap (λ m. asBest (costOf cost) (best cost good c (take m (q ∷ l)))) d), least-min cost f (costOf cost q) l ∙ sym (ap (λ m. leastCost cost f (drop m (q ∷ l))) d))
 
     -- the same from the beginning
     pub fold-progress : (l : List Sequence)
         → (foldOver noteOf noProgress l .steps ≡ min (length l) limit)
         × (foldOver noteOf noProgress l .exceeded ≡ ltb limit (length l))
-        × (length l ≤ limit → foldOver noteOf noProgress l .best ≡ asBest (costOf cost) (best cost good none l))
+        × (foldOver noteOf noProgress l .best ≡ asBest (costOf cost) (best cost good none (take limit l)))
+        × (foldOver noteOf noProgress l .floor ≡ leastCost cost 65535 (drop limit l))
     unfolding noProgress asBest
     fold-progress l =
-        let w = fold-counts l 0 none (omega arith) in
+        let w = fold-counts l 0 none 65535 (omega arith) in
         let s = zero-add (length l) in
-        (w .0 ∙ ap (λ n. min n limit) s, w .1 ∙ ap (ltb limit) s, λ h. w .2 (omega arith))
+        let d : limit - 0 ≡ limit = omega arith in
+        (w .0 ∙ ap (λ n. min n limit) s, w .1 ∙ ap (ltb limit) s, w .2 ∙ ap (λ n. asBest (costOf cost) (best cost good none (take n l))) d, w .3 ∙ ap (λ n. leastCost cost 65535 (drop n l)) d)

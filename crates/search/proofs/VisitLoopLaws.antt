@@ -1,22 +1,22 @@
 -- The turns of the loop of `visit_from`: what the rules from a place on make of the progress, with the rule there and without it; what a call for one more rule asks;
 -- and that an exceeded progress stays as it is.
 -- Assumes nothing.
-use mathlib.Core.Path.{_≡_, refl, sym, ap, ap₂, _∙_}
+use mathlib.Core.Path.{_≡_, refl, sym, ap, ap₂, subst, _∙_}
 use mathlib.Core.Logic.{_≢_}
 use mathlib.Core.Bool.{Bool, true, false, cond, _&&_}
 use mathlib.Core.Option.{Option, some, none}
 use mathlib.Core.List.{List, [], _∷_, _++_}
-use Prim.Native.Nat.{ℕ, zero, suc, _+_, _-_, _*_, _≤_, _<_}
+use Prim.Native.Nat.{ℕ, zero, suc, _+_, _-_, _*_, _≤_, _<_, min}
 use native.Mathlib.Omega.{arith}
 use lib.Dec.{leb, ltb, eqb}
 use lib.ListN.{length, getD, take, replicate, length-append}
 use lib.Seq.{take-at}
-use borrow.Author.Tests.{leb-true}
+use borrow.Author.Tests.{leb-true, le-ltb, ltb-false}
 use Rattle.theory.specs.Lists.{foldOver, numbersFrom, onlyIf, padded}
 use Rattle.theory.specs.Sequences.{Sequence, costOf}
 use Rattle.theory.specs.Indices.{indexOf}
 use Rattle.theory.specs.Recursion.{last, enterWith}
-use Rattle.theory.proofs.ListLaws.{and-split}
+use Rattle.theory.proofs.ListLaws.{and-split, not-both}
 use Rattle.theory.proofs.SequenceLaws.{cost-append, numbered-append}
 use Rattle.model.specs.States.{State, applicable, successor}
 use Rattle.model.proofs.LoopLaws.{rules-left}
@@ -55,11 +55,32 @@ enter-only c false false t visit = refl
 pub goes-within : (total most room : ℕ) (b a goes : Bool) → goes ≡ ((leb total most && b) && a) → goes ≡ true → most < room → total < room
 goes-within total most room b a goes e t h = let w = leb-true total most (and-split (leb total most) b (and-split (leb total most && b) a (sym e ∙ t) .0) .0) in omega arith
 
--- an exceeded progress stays as it is
-noted-exceeded : (goal : List ℕ) (limit cost : ℕ) (q : Sequence) (s : State) (p : Progress) → p .exceeded ≡ true → noted goal limit cost q s p ≡ p
+-- the limit is exceeded, and the floor is no higher than a cost: what costs as much or more changes nothing
+abbrev Idle : ℕ → ℕ → Progress → Type 0
+Idle limit cost p = (limit ≤ p .steps) × (p .exceeded ≡ true) × (p .floor ≤ cost)
+
+noted-idle : (goal : List ℕ) (limit cost : ℕ) (q : Sequence) (s : State) (p : Progress) → Idle limit cost p → noted goal limit cost q s p ≡ p
 unfolding noted
-noted-exceeded goal limit cost q s p h =
-    ap (λ b. cond b p (cond (ltb (p .steps) limit) (record { steps = p .steps + 1; exceeded = false; best = bestAt goal cost q s (p .best) }) (record { steps = p .steps; exceeded = true; best = p .best }))) h
+noted-idle goal limit cost q s p h =
+    let low : min (p .floor) cost ≡ p .floor = let k = h .2 in omega arith in
+    ap (λ b. cond b (record { steps = p .steps + 1; exceeded = false; best = bestAt goal cost q s (p .best); floor = p .floor }) (record { steps = p .steps; exceeded = true; best = p .best; floor = min (p .floor) cost }))
+    (le-ltb (p .steps) limit (h .0))
+    ∙ (λ i. record { steps = p .steps; exceeded = sym (h .1) i; best = p .best; floor = low i })
+
+-- a sequence beyond the limit leaves the progress so
+idle-noted : (goal : List ℕ) (limit cost : ℕ) (q : Sequence) (s : State) (p c : Progress) → c ≡ noted goal limit cost q s p → c .exceeded ≡ true → Idle limit cost c
+unfolding noted
+idle-noted goal limit cost q s p c e t = go (ltb (p .steps) limit) refl e
+  where
+    go : (b : Bool) → ltb (p .steps) limit ≡ b
+        → c ≡ cond b (record { steps = p .steps + 1; exceeded = false; best = bestAt goal cost q s (p .best); floor = p .floor }) (record { steps = p .steps; exceeded = true; best = p .best; floor = min (p .floor) cost })
+        → Idle limit cost c
+    go true k is = not-both t (ap (λ (x : Progress). x .exceeded) is)
+    go false k is =
+        let m = ltb-false (p .steps) limit k in
+        let a = ap (λ (x : Progress). x .steps) is in
+        let f = ap (λ (x : Progress). x .floor) is in
+        (omega arith, t, omega arith)
 
 -- ── The loop over the rules ──────────────────────────────────────────────────────────────────────
 
@@ -92,19 +113,29 @@ module _ (conditions effects : List (List ℕ)) (costs blocked goal : List ℕ) 
   unfolding restFrom
   loop-end n q s k c h = let e : limits .count - k ≡ 0 = omega arith in rw e
 
-  -- an exceeded progress stays as it is, all through what is to come
-  visits-exceeded : (n : ℕ) (q : Sequence) (s : State) (c : Progress) → c .exceeded ≡ true → visits n q s c ≡ c
-  unfolding visitsFrom
-  visits-exceeded zero q s c h = noted-exceeded goal (limits .«step_limit») (costOf (lentCost costs) q) q s c h
-  visits-exceeded (suc n) q s c h =
-      ap (λ x. foldOver (byRule n q s) x (numbersFrom 1 (limits .count))) (noted-exceeded goal (limits .«step_limit») (costOf (lentCost costs) q) q s c h)
-      ∙ fold-fixed (byRule n q s) c (numbersFrom 1 (limits .count)) (λ r. enter-fixed c (λ _. mayGoOn costs blocked limits (q ++ (r ∷ []))) (lentStep conditions effects r s) _ (λ t. visits-exceeded n (q ++ (r ∷ [])) t c h))
+  -- with one more rule a sequence costs no less
+  idle-next : (q : Sequence) (r : ℕ) (c : Progress) → Idle (limits .«step_limit») (costOf (lentCost costs) q) c → Idle (limits .«step_limit») (costOf (lentCost costs) (q ++ (r ∷ []))) c
+  idle-next q r c h = let k = h .2 in (h .0, h .1, omega (arith, cost-append (lentCost costs) q (r ∷ [])))
 
-  pub rest-exceeded : (n : ℕ) (q : Sequence) (s : State) (k : ℕ) (c : Progress) → c .exceeded ≡ true → restFrom n q s k c ≡ c
+  -- an exceeded progress stays as it is, all through what extends a sequence that costs no less than its floor
+  visits-idle : (n : ℕ) (q : Sequence) (s : State) (c : Progress) → Idle (limits .«step_limit») (costOf (lentCost costs) q) c → visits n q s c ≡ c
+  unfolding visitsFrom
+  visits-idle zero q s c h = noted-idle goal (limits .«step_limit») (costOf (lentCost costs) q) q s c h
+  visits-idle (suc n) q s c h =
+      ap (λ x. foldOver (byRule n q s) x (numbersFrom 1 (limits .count))) (noted-idle goal (limits .«step_limit») (costOf (lentCost costs) q) q s c h)
+      ∙ fold-fixed (byRule n q s) c (numbersFrom 1 (limits .count)) (λ r. enter-fixed c (λ _. mayGoOn costs blocked limits (q ++ (r ∷ []))) (lentStep conditions effects r s) _ (λ t. visits-idle n (q ++ (r ∷ [])) t c (idle-next q r c h)))
+
+  rest-idle : (n : ℕ) (q : Sequence) (s : State) (k : ℕ) (c : Progress) → Idle (limits .«step_limit») (costOf (lentCost costs) q) c → restFrom n q s k c ≡ c
   unfolding restFrom
-  rest-exceeded n q s k c h =
+  rest-idle n q s k c h =
       fold-fixed (byRule n q s) c (numbersFrom (k + 1) (limits .count - k))
-      (λ r. enter-fixed c (λ _. mayGoOn costs blocked limits (q ++ (r ∷ []))) (lentStep conditions effects r s) _ (λ t. visits-exceeded n (q ++ (r ∷ [])) t c h))
+      (λ r. enter-fixed c (λ _. mayGoOn costs blocked limits (q ++ (r ∷ []))) (lentStep conditions effects r s) _ (λ t. visits-idle n (q ++ (r ∷ [])) t c (idle-next q r c h)))
+
+  -- a sequence beyond the limit, with all that extends it
+  pub whole-exceeded : (left : ℕ) (q : Sequence) (s : State) (p : Progress) (cost : ℕ) (c : Progress) → left ≢ 0 → cost ≡ costOf (lentCost costs) q → c ≡ noted goal (limits .«step_limit») cost q s p
+      → c .exceeded ≡ true → c ≡ visits left q s p
+  whole-exceeded left q s p cost c h paid is over =
+      sym (rest-idle (left - 1) q s 0 c (subst (λ n. Idle (limits .«step_limit») n c) paid (idle-noted goal (limits .«step_limit») cost q s p c is over))) ∙ whole left q s p cost c h paid is
 
   -- one turn
   turn : (n : ℕ) (q : Sequence) (s : State) (k : ℕ) (c : Progress) → k < limits .count → restFrom n q s k c ≡ restFrom n q s (k + 1) (byRule n q s (k + 1) c)

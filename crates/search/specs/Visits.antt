@@ -6,15 +6,16 @@ use mathlib.Core.Option.{Option, some, none}
 use mathlib.Core.List.{List, []}
 use Prim.Native.Nat.{ℕ, _+_, _-_, _≤_, _<_, min}
 use lib.Dec.{leb, ltb, eqb}
-use lib.ListN.{length, getD, take, replicate}
+use lib.ListN.{length, getD, take, drop, replicate}
 use Rattle.theory.specs.Lists.{onlyIf, padded}
 use Rattle.theory.specs.Sequences.{Sequence, costOf, Numbered}
 use Rattle.theory.specs.Indices.{indexOf}
-use Rattle.theory.specs.Recursion.{last, exploreWith}
+use Rattle.theory.specs.Plans.{reaches}
+use Rattle.theory.specs.Recursion.{last, exploreWith, best, leastCost}
 use Rattle.model.specs.States.{State, applicable, successor}
-use Rattle.model.specs.Rules.{sequenceCost}
+use Rattle.model.specs.Rules.{stepOf, ruleCost, sequenceCost}
 use Rattle.model.specs.declared.RuleSet.{RuleSet}
-use Rattle.queries.specs.Query.{Query, meetsGoal, visitedBy}
+use Rattle.queries.specs.Query.{Query, startState, meetsGoal, visitedBy}
 use Rattle.queries.specs.Searched.{noMove, cheapestPlan}
 use Rattle.search.specs.declared.visits.Best.{Best}
 use Rattle.search.specs.declared.visits.Progress.{Progress}
@@ -51,16 +52,15 @@ noBest = record { found = false; cost = 0; length = 0; moves = replicate 32 noMo
 unfoldable pub bestAt : List ℕ → ℕ → Sequence → State → Best → Best
 bestAt goal cost q s best = cond (meetsGoal goal s && replaces best cost (length q)) (bestOf cost q) best
 
--- what visiting q makes of the progress: one step more, if the limit allows it; else the limit is exceeded, and from then on nothing changes
+-- what visiting q makes of the progress: one step more, if the limit allows it; else the limit is exceeded, and the floor is no higher than the sequence's cost
 unfoldable pub noted : List ℕ → ℕ → ℕ → Sequence → State → Progress → Progress
 noted goal limit cost q s p =
-    cond (p .exceeded) p
-    (cond (ltb (p .steps) limit) (record { steps = p .steps + 1; exceeded = false; best = bestAt goal cost q s (p .best) })
-    (record { steps = p .steps; exceeded = true; best = p .best }))
+    cond (ltb (p .steps) limit) (record { steps = p .steps + 1; exceeded = false; best = bestAt goal cost q s (p .best); floor = p .floor })
+    (record { steps = p .steps; exceeded = true; best = p .best; floor = min (p .floor) cost })
 
 -- the progress before any sequence is visited
 unfoldable pub noProgress : Progress
-noProgress = record { steps = 0; exceeded = false; best = noBest }
+noProgress = record { steps = 0; exceeded = false; best = noBest; floor = 65535 }
 
 -- the progress after the sequence q, which has led to the state s, and all that extends it by at most n rules
 unfoldable pub visitsFrom : List (List ℕ) → List (List ℕ) → List ℕ → List ℕ → List ℕ → Limits → ℕ → Sequence → State → Progress → Progress
@@ -97,8 +97,10 @@ unfoldable pub asBest : (Sequence → ℕ) → Option Sequence → Best
 asBest cost none = noBest
 asBest cost (some q) = bestOf (cost q) q
 
--- the steps are the visited sequences up to the limit; if these are not more than the limit, the best plan is the cheapest of all
+-- the steps are the visited sequences up to the limit; the best plan is the best of these, and the floor the least cost of the others; if there are no others, the best plan is the cheapest of all
 pub record Explored (set : RuleSet) (query : Query) (progress : Progress) : Type 0 where
   pub steps : progress .steps ≡ min (length (visitedBy set query)) (query .stepLimit)
   pub exceeded : progress .exceeded ≡ ltb (query .stepLimit) (length (visitedBy set query))
+  pub looked : progress .best ≡ asBest (sequenceCost set) (best (ruleCost set) (reaches (stepOf set) (startState query) (meetsGoal (query .goal))) none (take (query .stepLimit) (visitedBy set query)))
   pub best : length (visitedBy set query) ≤ query .stepLimit → progress .best ≡ asBest (sequenceCost set) (cheapestPlan set query)
+  pub floor : progress .floor ≡ leastCost (ruleCost set) 65535 (drop (query .stepLimit) (visitedBy set query))

@@ -24,6 +24,9 @@ ghost use Rattle.search.specs.Visits.{Explored};
 // The byte of the plan buffer where there is no move.
 const NO_MOVE: u8 = 255;
 
+// The floor while no sequence beyond the limit is met: no cost is larger.
+const NO_FLOOR: u16 = 65535;
+
 // The byte of a goal that asks for nothing.
 const ANY_VALUE: u8 = 255;
 
@@ -113,6 +116,7 @@ fn explored(
         steps: 0,
         exceeded: false,
         best,
+        floor: NO_FLOOR,
     };
     visit_from(
         &conditions,

@@ -3,8 +3,8 @@ use crate::ANY_VALUE;
 use crate::lookup::first_place;
 use model::value;
 ghost use mathlib.Core.Path.{_≡_};
-ghost use mathlib.Core.Bool.{false, _&&_};
-ghost use Prim.Native.Nat.{_≤_, _<_};
+ghost use mathlib.Core.Bool.{_&&_};
+ghost use Prim.Native.Nat.{_≤_, _<_, min};
 ghost use lib.Dec.{leb, eqb};
 ghost use lib.ListN.{length, take, replicate};
 ghost use Rattle.theory.specs.Lists.{padded};
@@ -21,11 +21,12 @@ pub(crate) struct Best {
     pub moves: [u8; 32],
 }
 
-// How far the search has come: the sequences visited, at most the step limit; whether there are more than the limit; the best plan.
+// How far the search has come: the sequences visited, at most the step limit; whether there are more than the limit; the best plan of those visited; the least cost of those met beyond the limit.
 pub(crate) struct Progress {
     pub steps: u32,
     pub exceeded: bool,
     pub best: Best,
+    pub floor: u16,
 }
 
 // What stays the same all through a search: how many positions and rules the set has, the table's reach, the cost bound and the step limit.
@@ -101,6 +102,13 @@ fn replaces(best: Best, cost: u16, length: u8) -> bool
     length < best.length
 }
 
+// The smaller of two costs.
+fn smaller(a: u16, b: u16) -> u16
+    ensures { λ r. ⌜ r ≡ min a b ⌝ }
+{
+    if a < b { a } else { b }
+}
+
 // Visits one sequence: the first `depth` moves of the plan, which have led to the state at that cost. The limit is compared before one is added.
 fn noted(
     goal: &[u8],
@@ -111,15 +119,17 @@ fn noted(
     cost: u16,
     progress: Progress,
 ) -> Progress
-    requires { ⌜ (length (now goal) ≤ 16) × (depth ≤ 32) × (now plan ≡ padded 32 noMove (take depth (now plan))) × (progress .exceeded ≡ false) ⌝ }
+    requires { ⌜ (length (now goal) ≤ 16) × (depth ≤ 32) × (now plan ≡ padded 32 noMove (take depth (now plan))) ⌝ }
     ensures { λ r. ⌜ r ≡ noted (now (goal .entry)) «step_limit» cost (take depth (now (plan .entry))) (now (state .entry)) progress ⌝ }
 {
     let best = progress.best;
     if step_limit <= progress.steps {
+        let floor = smaller(progress.floor, cost);
         return Progress {
             steps: progress.steps,
             exceeded: true,
             best,
+            floor,
         };
     }
     let steps = progress.steps + 1;
@@ -136,6 +146,7 @@ fn noted(
                 steps,
                 exceeded: false,
                 best: found,
+                floor: progress.floor,
             };
         }
     }
@@ -143,6 +154,7 @@ fn noted(
         steps,
         exceeded: false,
         best,
+        floor: progress.floor,
     }
 }
 
@@ -168,7 +180,7 @@ fn goes_on(
     runs_within(positions, condition, state)
 }
 
-// Visits a sequence and all that extends it by at most `left` moves: the first `depth` moves of the plan, which have led to the state at that cost. It ends as soon as the limit is exceeded.
+// Visits a sequence and all that extends it by at most `left` moves: the first `depth` moves of the plan, which have led to the state at that cost. Beyond the limit it extends no sequence.
 pub(crate) fn visit_from(
     conditions: &[[u8; 16]; 31],
     effects: &[[u8; 16]; 31],
@@ -183,7 +195,7 @@ pub(crate) fn visit_from(
     left: usize,
     progress: Progress,
 ) -> Progress
-    requires { ⌜ Lent (now conditions) (now effects) (now goal) limits × Reached (now costs) limits (now state) (now plan) depth cost left × (progress .exceeded ≡ false) ⌝ }
+    requires { ⌜ Lent (now conditions) (now effects) (now goal) limits × Reached (now costs) limits (now state) (now plan) depth cost left ⌝ }
     ensures { λ r. ⌜ r ≡ visitsFrom (now (conditions .entry)) (now (effects .entry)) (now (costs .entry)) (now (blocked .entry)) (now (goal .entry)) limits left (take depth (now (plan .entry))) (now (state .entry)) progress ⌝ }
 {
     // most sequences are of this kind: what they make of the progress goes straight to the caller
@@ -191,15 +203,16 @@ pub(crate) fn visit_from(
         return noted(goal, limits.step_limit, state, plan, depth, cost, progress);
     }
     let mut carried = noted(goal, limits.step_limit, state, plan, depth, cost, progress);
+    // what extends a sequence beyond the limit costs no less
+    if carried.exceeded {
+        return carried;
+    }
     let first = first_place(limits.reach, limits.count, plan, depth);
     let end = depth as usize;
     let mut longer = *plan;
     let prices: &[u8] = costs;
     let mut k: usize = 0;
     while k < limits.count {
-        if carried.exceeded {
-            return carried;
-        }
         let total = cost as u32 + prices[k] as u32;
         if goes_on(
             blocked[first + k],

@@ -7,3 +7,4 @@ pub mod CheapestLaws
 pub mod PruningLaws
 pub mod VisitLaws
 pub mod PlanLaws
+pub mod FloorLaws

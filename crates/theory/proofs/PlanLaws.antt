@@ -118,7 +118,24 @@ module _ (cost : ℕ → ℕ) where
   bestOf-finds [] o p h = absurd (List·Memᴰ·not-nil (h .0))
   bestOf-finds (x ∷ l) o p h = let w = bestOf-least l x o in w .1 ∙ ap {B = Option Sequence} some (least-unique cost (x ∷ l) (w .0) p (w .2) h)
 
+  -- the fold over l, in lexicographic order, gives the cheapest of c, in document 01's order, where what counts in l is in c, and the cheapest of c counts in l
+  pub best-agrees : (good : Sequence → Bool) (l c : List Sequence) → Pairwise LexBefore (keep good l) → Pairwise Before c
+      → ((q : Sequence) → q ∈ keep good l → q ∈ c) → ((p : Sequence) → cheapest cost c ≡ some p → p ∈ keep good l) → best cost good none l ≡ cheapest cost c
+  best-agrees good l c lex ordered inside outside = best-keep good none l ∙ go (cheapest cost c) refl
+    where
+      empty : (k : List Sequence) → ((q : Sequence) → q ∈ k → ⊥) → bestOf none k ≡ none
+      empty [] h = refl
+      empty (q ∷ k) h = absurd (h q (here q k))
+
+      go : (o : Option Sequence) → cheapest cost c ≡ o → bestOf none (keep good l) ≡ o
+      go none e = empty (keep good l) (λ q d. List·Memᴰ·not-nil (subst (λ k. q ∈ k) (cheapest-none cost c e) (inside q d)))
+      go (some p) e = let least = cheapest-least cost c ordered p e in bestOf-finds (keep good l) lex p (outside p e, λ q d. least .1 q (inside q d))
+
 -- ── The search's answer ──────────────────────────────────────────────────────────────────────────
+
+-- the plans stand in document 01's order
+plans-ordered : {A : Type 0} (step : ℕ → A → Option A) (cost : ℕ → ℕ) (m : ℕ) (start : A) (goal : A → Bool) (maxMoves maxCost : ℕ) → Pairwise Before (candidates step cost m start goal maxMoves maxCost)
+plans-ordered step cost m start goal maxMoves maxCost = pairwise-keep Before (isPlan step cost start goal maxCost) (sequences m maxMoves) (sequences-ordered m maxMoves)
 
 -- a search that visits the sequences that pass a test answers with the cheapest plan of all, where those that pass can be run within the cost bound and the cheapest plan passes
 module _ {A : Type 0} (step : ℕ → A → Option A) (cost : ℕ → ℕ) (m : ℕ) (start : A) (goal : A → Bool) (maxMoves maxCost : ℕ) (good : Sequence → Bool)
@@ -152,18 +169,9 @@ module _ {A : Type 0} (step : ℕ → A → Option A) (cost : ℕ → ℕ) (m : 
 
   -- the search answers with the cheapest plan; where there is no plan, with none
   pub best-of-good : best cost (reaches step start goal) none (keep good (depthFirst m maxMoves)) ≡ cheapest cost (candidates step cost m start goal maxMoves maxCost)
-  best-of-good = best-keep cost (reaches step start goal) none (keep good (depthFirst m maxMoves)) ∙ go (cheapest cost plans) refl
-    where
-      empty : (l : List Sequence) → ((q : Sequence) → q ∈ l → ⊥) → bestOf cost none l ≡ none
-      empty [] h = refl
-      empty (q ∷ l) h = absurd (h q (here q l))
-
-      go : (o : Option Sequence) → cheapest cost plans ≡ o → bestOf cost none found ≡ o
-      go none e = empty found (λ q d. List·Memᴰ·not-nil (subst (λ l. q ∈ l) (cheapest-none cost plans e) (found-plans q d)))
-      go (some p) e = bestOf-finds cost found found-ordered p (plans-found p (least .0) (passes p e), λ q d. least .1 q (found-plans q d))
-        where
-          least : Least cost plans p
-          least = cheapest-least cost plans (pairwise-keep Before (isPlan step cost start goal maxCost) (sequences m maxMoves) (sequences-ordered m maxMoves)) p e
+  best-of-good =
+      let ordered = plans-ordered step cost m start goal maxMoves maxCost in
+      best-agrees cost (reaches step start goal) (keep good (depthFirst m maxMoves)) plans found-ordered ordered found-plans (λ p e. plans-found p (cheapest-least cost plans ordered p e .0) (passes p e))
 
 -- and so does the search that visits what justified marks leave
 module _ {A : Type 0} (step : ℕ → A → Option A) (cost : ℕ → ℕ) (m : ℕ) (Valid : A → Type 0) (closed : Closed step m Valid)
@@ -172,7 +180,7 @@ module _ {A : Type 0} (step : ℕ → A → Option A) (cost : ℕ → ℕ) (m : 
   -- the cheapest plan is visited
   pub cheapest-visited : (p : Sequence) → cheapest cost (candidates step cost m start goal maxMoves maxCost) ≡ some p → isVisited step cost marked start maxCost p ≡ true
   cheapest-visited p e =
-      let d = cheapest-least cost (candidates step cost m start goal maxMoves maxCost) (pairwise-keep Before (isPlan step cost start goal maxCost) (sequences m maxMoves) (sequences-ordered m maxMoves)) p e .0 in
+      let d = cheapest-least cost (candidates step cost m start goal maxMoves maxCost) (plans-ordered step cost m start goal maxMoves maxCost) p e .0 in
       let t = of-plan step cost start goal maxCost p (of-keep (isPlan step cost start goal maxCost) (sequences m maxMoves) d .1) in
       and-join (ap isSome (t .1)) (in-allowed cost marked maxCost p (t .3) (cheapest-not-pruned step cost m Valid closed marked justified start goal maxMoves maxCost p valid e))
 

@@ -2,7 +2,7 @@
 use mathlib.Core.Bool.{Bool, not, cond, _&&_, _||_}
 use mathlib.Core.Option.{Option, some, none}
 use mathlib.Core.List.{List, [], _∷_, _++_}
-use Prim.Native.Nat.{ℕ, zero, suc, _-_}
+use Prim.Native.Nat.{ℕ, zero, suc, _-_, min}
 use lib.Dec.{leb, ltb, eqb}
 use lib.ListN.{length, drop}
 use Rattle.theory.specs.Lists.{any, keep, flat, foldOver}
@@ -58,6 +58,13 @@ bestAfter cost good q c = cond (good q) (improved cost q c) c
 -- the best plan so far after the sequences of a list
 abbrev pub best : (ℕ → ℕ) → (Sequence → Bool) → Option Sequence → List Sequence → Option Sequence
 best cost good = foldOver (bestAfter cost good)
+
+-- ── The least cost ───────────────────────────────────────────────────────────────────────────────
+
+-- the least of c and of what the sequences of a list cost
+abbrev pub leastCost : (ℕ → ℕ) → ℕ → List Sequence → ℕ
+leastCost cost c [] = c
+leastCost cost c (q ∷ l) = min (costOf cost q) (leastCost cost c l)
 
 -- ── The recursion that carries something along ───────────────────────────────────────────────────
 

@@ -44,7 +44,7 @@ visit-from-requires c κs =
     let lent = looked .before .before .before .before in
     let start = lent .before .before .before .before .before .before in
     rw (lent .before .before .conditions-of .ensures, lent .before .effects-of .ensures, lent .costs-of .ensures, placed .start-state .ensures)
-    (lent-whole (start .args .set) _ (start .pre), reached-first (start .args .set) _ (start .pre) _, refl)
+    (lent-whole (start .args .set) _ (start .pre), reached-first (start .args .set) _ (start .pre) _)
 
 returns : tie.Need-returns
 unfolding noBest noProgress

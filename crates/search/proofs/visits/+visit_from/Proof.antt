@@ -14,7 +14,7 @@ use Rattle.theory.specs.Lists.{padded}
 use Rattle.tables.proofs.CountLaws.{count-bound}
 use Rattle.queries.specs.Searched.{noMove}
 use Rattle.search.proofs.PlanArrayLaws.{plan-more}
-use Rattle.search.proofs.VisitLoopLaws.{goes-within, restFrom, visits-last, whole, loop-end, rest-exceeded, turn-taken, turn-left, plan-next, reached-next}
+use Rattle.search.proofs.VisitLoopLaws.{goes-within, restFrom, visits-last, whole, whole-exceeded, loop-end, turn-taken, turn-left, plan-next, reached-next}
 use Rattle.search.proofs.lookup.first_place.Reads as first-place-reads
 use Rattle.search.proofs.visits.goes_on.Reads as goes-on-reads
 use Rattle.search.proofs.visits.noted.Reads as noted-reads
@@ -63,7 +63,7 @@ module _ (t : ℕ) where
   noted-requires : lts.Need-noted-requires (calls t) (at t) visit-from.Post Inv μ
   noted-requires c κs =
       let asked = c .before .before .pre .1 in
-      (asked .0 .goalLimit, omega (arith, asked .1 .room), asked .1 .rest, asked .2)
+      (asked .0 .goalLimit, omega (arith, asked .1 .room), asked .1 .rest)
 
   returns : lts.Need-returns (calls t) (at t) visit-from.Post Inv μ
   returns c = c .noted .ensures ∙ visits-last _ _ _ _ _ _ _ _ _ _ _ (c .before .if1 .taken) (c .before .before .before .pre .1 .1 .total)
@@ -71,144 +71,142 @@ module _ (t : ℕ) where
   noted-requires-2 : lts.Need-noted-requires-2 (calls t) (at t) visit-from.Post Inv μ
   noted-requires-2 c κs =
       let asked = c .before .before .pre .1 in
-      (asked .0 .goalLimit, omega (arith, asked .1 .room), asked .1 .rest, asked .2)
+      (asked .0 .goalLimit, omega (arith, asked .1 .room), asked .1 .rest)
+
+  returns-2 : lts.Need-returns-2 (calls t) (at t) visit-from.Post Inv μ
+  returns-2 c =
+      let noted = c .before in
+      whole-exceeded _ _ _ _ _ _ _ _ _ _ _ _ (noted .before .if1 .left) (noted .before .before .before .pre .1 .1 .total) (noted .noted2 .ensures) (c .if2 .taken)
 
   first-place-requires : lts.Need-first-place-requires (calls t) (at t) visit-from.Post Inv μ
   first-place-requires c κs =
-      let asked = c .before .before .before .pre .1 in
+      let asked = c .before .before .before .before .pre .1 in
       let lent = asked .0 in
       (lent .reachLimits .0, lent .reachLimits .1, lent .countLimits .0, lent .countLimits .1, omega (arith, asked .1 .room), asked .1 .rules)
 
   loop-holds : lts.Need-loop-holds (calls t) (at t) visit-from.Post Inv μ
   loop-holds c =
-      let before = c .before .before .before .before in
+      let before = c .before .before .before .before .before in
       let start = before .before .before in
       (omega arith, refl, λ number. plan-more 32 noMove _ _ (start .pre .1 .1 .rest) number (omega (arith, start .pre .1 .1 .room, before .if1 .left)))
 
   -- the function's start, from the loop's head
   abbrev start : lts.At-loop (calls t) (at t) visit-from.Post Inv μ → lts.Start (calls t) (at t) visit-from.Post Inv μ
-  start l = l .before .before .before .before .before .before .before
+  start l = l .before .before .before .before .before .before .before .before
 
   -- in the loop the plan has room for one more move
   deeper : (l : lts.At-loop (calls t) (at t) visit-from.Post Inv μ) → start l .args .depth < 32
-  deeper l = omega (arith, start l .pre .1 .1 .room, l .before .before .before .before .before .if1 .left)
+  deeper l = omega (arith, start l .pre .1 .1 .room, l .before .before .before .before .before .before .if1 .left)
 
   -- a turn's place is one of the 31 rows
-  near : (c : lts.Then2 (calls t) (at t) visit-from.Post Inv μ) → c .before .before .loop .k < 31
-  near c = omega (arith, c .if2 .taken, start (c .before .before) .pre .1 .0 .countLimits)
-
-  returns-2 : lts.Need-returns-2 (calls t) (at t) visit-from.Post Inv μ
-  returns-2 c =
-      let l = c .before .before .before in
-      let noted = l .before .before .before .before in
-      sym (rest-exceeded _ _ _ _ _ _ _ _ _ _ _ (c .if3 .taken)) ∙ l .loop .inv .1 ∙ whole _ _ _ _ _ _ _ _ _ _ _ _ (noted .before .if1 .left) (start l .pre .1 .1 .total) (noted .noted2 .ensures)
+  near : (c : lts.Then3 (calls t) (at t) visit-from.Post Inv μ) → c .before .before .loop .k < 31
+  near c = omega (arith, c .if3 .taken, start (c .before .before) .pre .1 .0 .countLimits)
 
   shared-slice-read-total : lts.Need-shared-slice-read-total (calls t) (at t) visit-from.Post Inv μ
-  shared-slice-read-total c = omega (arith, near (c .before .before))
+  shared-slice-read-total c = omega (arith, near (c .before))
 
   cast-total : lts.Need-cast-total (calls t) (at t) visit-from.Post Inv μ
-  cast-total c = omega (arith, c .shared-slice-known2 .given (c .before .before .before .before .loop .k))
+  cast-total c = omega (arith, c .shared-slice-known2 .given (c .before .before .before .loop .k))
 
   add-total : lts.Need-add-total (calls t) (at t) visit-from.Post Inv μ
   add-total c =
-      let l = c .before .before .before .before in
+      let l = c .before .before .before in
       omega (arith, c .shared-slice-known2 .given (l .loop .k), start l .fits .cost)
 
   -- the place of the rule in the look-up is one of its places
-  placed : (c : lts.Then2 (calls t) (at t) visit-from.Post Inv μ) → c .before .before .before .before .before .first-place .result + c .before .before .loop .k < 30784
+  placed : (c : lts.Then3 (calls t) (at t) visit-from.Post Inv μ) → c .before .before .before .before .before .first-place .result + c .before .before .loop .k < 30784
   placed c =
       let l = c .before .before in
       let lent = start l .pre .1 .0 in
-      omega (arith, c .if2 .taken, l .before .before .before .first-place .ensures .1, count-bound _ _ (lent .countLimits .1) (lent .reachLimits .1))
+      omega (arith, c .if3 .taken, l .before .before .before .first-place .ensures .1, count-bound _ _ (lent .countLimits .1) (lent .reachLimits .1))
 
   add-goes-on : lts.Need-add-goes-on (calls t) (at t) visit-from.Post Inv μ
-  add-goes-on c = omega (arith, placed (c .before .before))
+  add-goes-on c = omega (arith, placed (c .before))
 
   element-copy-out-goes-on : lts.Need-element-copy-out-goes-on (calls t) (at t) visit-from.Post Inv μ
-  element-copy-out-goes-on c = omega (arith, placed (c .before .before))
+  element-copy-out-goes-on c = omega (arith, placed (c .before))
 
   mul-goes-on : lts.Need-mul-goes-on (calls t) (at t) visit-from.Post Inv μ
-  mul-goes-on c = omega (arith, near (c .before .before .before))
+  mul-goes-on c = omega (arith, near (c .before .before))
 
   index-1-goes-on : lts.Need-index-1-goes-on (calls t) (at t) visit-from.Post Inv μ
-  index-1-goes-on c = omega (arith, near (c .before .before .before))
+  index-1-goes-on c = omega (arith, near (c .before .before))
 
   goes-on-requires : lts.Need-goes-on-requires (calls t) (at t) visit-from.Post Inv μ
   goes-on-requires c κs =
-      let l = c .before .before .before .before .before .before in
+      let l = c .before .before .before .before .before in
       let asked = start l .pre .1 in
-      (asked .0 .positionLimit, asked .0 .conditionEnds (l .loop .k) (c .before .before .before .before .if2 .taken), asked .1 .stateEnd)
+      (asked .0 .positionLimit, asked .0 .conditionEnds (l .loop .k) (c .before .before .before .if3 .taken), asked .1 .stateEnd)
 
   mul-put-after : lts.Need-mul-put-after (calls t) (at t) visit-from.Post Inv μ
-  mul-put-after c = omega (arith, near (c .before .before .before .before .before .before))
+  mul-put-after c = omega (arith, near (c .before .before .before .before .before))
 
   index-1-put-after : lts.Need-index-1-put-after (calls t) (at t) visit-from.Post Inv μ
-  index-1-put-after c = omega (arith, near (c .before .before .before .before .before .before))
+  index-1-put-after c = omega (arith, near (c .before .before .before .before .before))
 
   put-after-requires : lts.Need-put-after-requires (calls t) (at t) visit-from.Post Inv μ
   put-after-requires c κs =
-      let turn = c .before .before .before .before .before .before .before .before in
+      let turn = c .before .before .before .before .before .before .before in
       let lent = start (turn .before .before) .pre .1 .0 in
-      (lent .positionLimit, lent .effectEnds (turn .before .before .loop .k) (turn .if2 .taken), refl)
+      (lent .positionLimit, lent .effectEnds (turn .before .before .loop .k) (turn .if3 .taken), refl)
 
   cast-longer : lts.Need-cast-longer (calls t) (at t) visit-from.Post Inv μ
-  cast-longer c = omega (arith, near (c .before .before .before .before .before .before .before .before .before))
+  cast-longer c = omega (arith, near (c .before .before .before .before .before .before .before .before))
 
   add-longer : lts.Need-add-longer (calls t) (at t) visit-from.Post Inv μ
-  add-longer c = omega (arith, near (c .before .before .before .before .before .before .before .before .before))
+  add-longer c = omega (arith, near (c .before .before .before .before .before .before .before .before))
 
   array-write-longer : lts.Need-array-write-longer (calls t) (at t) visit-from.Post Inv μ
-  array-write-longer c = omega (arith, deeper (c .before .before .before .before .before .before .before .before .before .before .before))
+  array-write-longer c = omega (arith, deeper (c .before .before .before .before .before .before .before .before .before .before))
 
   add-visit-from : lts.Need-add-visit-from (calls t) (at t) visit-from.Post Inv μ
-  add-visit-from c = omega (arith, deeper (c .before .before .before .before .before .before .before .before .before .before .before .before .before))
+  add-visit-from c = omega (arith, deeper (c .before .before .before .before .before .before .before .before .before .before .before .before))
 
   cast-visit-from : lts.Need-cast-visit-from (calls t) (at t) visit-from.Post Inv μ
   cast-visit-from c =
       let went = c .before .before .before .before .before in
-      record { fits = goes-within _ _ _ _ _ _ (went .before .goes-on .ensures) (went .if4 .taken) (went .before .before .before .before .before .before .before .struct-known .given .1 .1 .1 .0 .fits) }
+      record { fits = goes-within _ _ _ _ _ _ (went .before .goes-on .ensures) (went .if4 .taken) (went .before .before .before .before .before .before .struct-known .given .1 .1 .1 .0 .fits) }
 
   sub-visit-from : lts.Need-sub-visit-from (calls t) (at t) visit-from.Post Inv μ
   sub-visit-from c = omega (arith, c .before .before .before .before .before .before .before .before .before .before .before .before .before .before .before .before .before .before .if1 .left)
 
   visit-from-requires : lts.Need-visit-from-requires (calls t) (at t) visit-from.Post Inv μ
   visit-from-requires c κs =
-      let turn = c .before .before .before .before .before .before .before .before .before .before .before in
+      let turn = c .before .before .before .before .before .before .before .before .before .before in
       let l = turn .before .before in
       let pre = start l .pre in
       let lent = pre .1 .0 in
       let reached = pre .1 .1 in
-      let more = l .before .before .before .before .before .if1 .left in (
+      let more = l .before .before .before .before .before .before .if1 .left in (
         omega (arith, pre .0, more),
         (
           lent,
-          reached-next _ _ _ _ _ _ _ reached _ _ (l .loop .inv .2 _) (turn .if2 .taken) _ (lent .effectEnds _ (turn .if2 .taken)) _ (c .before .before .put-after .ensures) _ (omega (arith, reached .room, more)),
-          c .before .before .before .before .before .before .before .before .before .before .if3 .left,
+          reached-next _ _ _ _ _ _ _ reached _ _ (l .loop .inv .2 _) (turn .if3 .taken) _ (lent .effectEnds _ (turn .if3 .taken)) _ (c .before .before .put-after .ensures) _ (omega (arith, reached .room, more)),
         ),
       )
 
   add-k : lts.Need-add-k (calls t) (at t) visit-from.Post Inv μ
-  add-k c = omega (arith, near (c .before .before .before .before .before .before))
+  add-k c = omega (arith, near (c .before .before .before .before .before))
 
   loop-less : lts.Need-loop-less (calls t) (at t) visit-from.Post Inv μ
   loop-less c = omega arith
 
   loop-again : lts.Need-loop-again (calls t) (at t) visit-from.Post Inv μ
   loop-again c =
-      let turn = c .before .before .before .before .before .before in
+      let turn = c .before .before .before .before .before in
       let l = turn .before .before in
       let asked = start l .pre .1 in
       let first = l .before .before .before .first-place .ensures .0 in
       ⊎-elim
       (λ w. (
-        omega (arith, turn .if2 .taken),
-        turn-taken _ _ _ _ _ _ _ _ _ first (asked .1 .total) (asked .0 .reachLimits .0) _ _ _ _ _ (turn .if2 .taken) (l .loop .inv .1) _ (c .before .goes-on .ensures) (w .0 .taken) _
+        omega (arith, turn .if3 .taken),
+        turn-taken _ _ _ _ _ _ _ _ _ first (asked .1 .total) (asked .0 .reachLimits .0) _ _ _ _ _ (turn .if3 .taken) (l .loop .inv .1) _ (c .before .goes-on .ensures) (w .0 .taken) _
             (plan-next _ _ _ _ _ _ _ (asked .1) _ _ (l .loop .inv .2 _)) _ (w .3 .ensures) (w .6 .result) _ (w .7) (w .6 .ensures),
         λ number. rw (w .8) (set-set (l .loop .longer) (start l .args .depth) (l .loop .k + 1) number ∙ l .loop .inv .2 number),
       ))
       (λ w. (
-        omega (arith, turn .if2 .taken),
-        rw (w .1) (turn-left _ _ _ _ _ _ _ _ _ first (asked .1 .total) (asked .0 .reachLimits .0) _ _ _ _ _ (turn .if2 .taken) (l .loop .inv .1) _ (c .before .goes-on .ensures) (w .0 .left)),
+        omega (arith, turn .if3 .taken),
+        rw (w .1) (turn-left _ _ _ _ _ _ _ _ _ first (asked .1 .total) (asked .0 .reachLimits .0) _ _ _ _ _ (turn .if3 .taken) (l .loop .inv .1) _ (c .before .goes-on .ensures) (w .0 .left)),
         λ number. rw (w .2) (l .loop .inv .2 number),
       ))
       (c .if4 .came)
@@ -216,8 +214,8 @@ module _ (t : ℕ) where
   returns-3 : lts.Need-returns-3 (calls t) (at t) visit-from.Post Inv μ
   returns-3 c =
       let l = c .before .before in
-      let noted = l .before .before .before .before in
-      sym (loop-end _ _ _ _ _ _ _ _ _ _ _ (c .if2 .left)) ∙ l .loop .inv .1 ∙ whole _ _ _ _ _ _ _ _ _ _ _ _ (noted .before .if1 .left) (start l .pre .1 .1 .total) (noted .noted2 .ensures)
+      let noted = l .before .before .before .before .before in
+      sym (loop-end _ _ _ _ _ _ _ _ _ _ _ (c .if3 .left)) ∙ l .loop .inv .1 ∙ whole _ _ _ _ _ _ _ _ _ _ _ _ (noted .before .if1 .left) (start l .pre .1 .1 .total) (noted .noted2 .ensures)
 
 pub +visit-from-spec : {M : Type 1} → statement M
 +visit-from-spec =
@@ -226,9 +224,9 @@ pub +visit-from-spec : {M : Type 1} → statement M
     (noted-requires t)
     (returns t)
     (noted-requires-2 t)
+    (returns-2 t)
     (first-place-requires t)
     (loop-holds t)
-    (returns-2 t)
     (shared-slice-read-total t)
     (cast-total t)
     (add-total t)
