@@ -4,7 +4,7 @@ use mathlib.Core.Path.{_≡_, refl, sym, ap, _∙_, subst}
 use mathlib.Core.Logic.{_↔_}
 use mathlib.Core.Bool.{true, false, true≢false}
 use mathlib.Core.Option.{Option, some, none, Option·some-injective}
-use mathlib.Core.List.{[], _∷_}
+use mathlib.Core.List.{List, [], _∷_}
 use Prim.Native.Nat.{ℕ, _-_, _≤_, _<_}
 use native.Mathlib.Omega.{arith}
 use Rattle.theory.specs.Lists.{isSome}
@@ -12,7 +12,7 @@ use Rattle.theory.specs.Sequences.{Sequence, Numbered}
 use Rattle.theory.proofs.ListLaws.{same-test, of-isSome}
 use Rattle.model.specs.States.{State, valuesOf, width, successor}
 use Rattle.model.specs.Rules.{ruleAt, StateOf, runIn, sequenceCost, admitted}
-use Rattle.model.specs.Validity.{WellFormed}
+use Rattle.model.specs.Validity.{LinesValid, WellFormed}
 use Rattle.model.specs.declared.RuleSet.{RuleSet}
 use Rattle.model.proofs.StateLaws.{applicable-iff}
 use Rattle.model.proofs.ValidityLaws.{valid-width-position}
@@ -36,10 +36,14 @@ module _ (set : RuleSet) (valid : WellFormed set) where
   abbrev wide : (i : ℕ) → i < set .positions → 2 ≤ width (set .positions) (set .sizes) i
   wide = valid-width-position set valid
 
+  -- valid lines are canonical
+  pub lines-canonical : (condition effect : List ℕ) → LinesValid (set .positions) (set .sizes) condition effect → Canonical (set .positions) (set .sizes) condition effect
+  lines-canonical condition effect v = canonical-iff (set .positions) (set .sizes) condition effect few wide .0 v
+
   -- the lines of each rule are canonical
   pub rule-canonical : (r : ℕ) → 1 ≤ r → r ≤ set .count → Canonical (set .positions) (set .sizes) (ruleAt set r .condition) (ruleAt set r .effect)
   unfolding ruleAt
-  rule-canonical r h k = canonical-iff (set .positions) (set .sizes) (ruleAt set r .condition) (ruleAt set r .effect) few wide .0 (valid .lines (r - 1) (omega arith))
+  rule-canonical r h k = lines-canonical (ruleAt set r .condition) (ruleAt set r .effect) (valid .lines (r - 1) (omega arith))
 
   -- ── The rules of a sequence after a macro ──────────────────────────────────────────────────────
 
@@ -62,7 +66,7 @@ module _ (set : RuleSet) (valid : WellFormed set) where
 
   -- its vectors are canonical
   pub means-canonical : (q : Sequence) (m : Macro) → Means set q m → Canonical (set .positions) (set .sizes) (m .condition) (m .effect)
-  means-canonical q m means = canonical-iff (set .positions) (set .sizes) (m .condition) (m .effect) few wide .0 (means .form)
+  means-canonical q m means = lines-canonical (m .condition) (m .effect) (means .form)
 
   -- what has a macro is admitted: some state meets the macro's condition
   pub means-admitted : (q : Sequence) (m : Macro) → Means set q m → Admitted set q

@@ -1,7 +1,8 @@
--- Canonical form is unique for a meaning: a sequence has one macro.
+-- Canonical form is unique for a meaning: no two pairs of lines do the same, and a sequence has one macro.
 -- Assumes nothing.
 use mathlib.Core.Path.{_≡_, sym, ap, _∙_}
-use mathlib.Core.Logic.{⊎-elim}
+use mathlib.Core.Logic.{⊎-elim, _↔_}
+use mathlib.Core.Bool.{true}
 use mathlib.Core.List.{List}
 use Prim.Native.Nat.{ℕ, _+_, _%_, _≤_}
 use native.Mathlib.Omega.{arith}
@@ -9,16 +10,16 @@ use lib.ListN.{length, getD}
 use lib.Seq.{ext-getD}
 use Rattle.theory.specs.Sequences.{Sequence}
 use Rattle.theory.proofs.TestLaws.{below?}
-use Rattle.model.specs.States.{State, valueOf, valuesOf, successor}
+use Rattle.model.specs.States.{State, valueOf, valuesOf, applicable, successor}
 use Rattle.model.specs.Rules.{StateOf}
-use Rattle.model.specs.Validity.{WellFormed}
+use Rattle.model.specs.Validity.{LinesValid, WellFormed}
 use Rattle.model.specs.declared.RuleSet.{RuleSet}
 use Rattle.model.proofs.StateLaws.{value-constant, applicable-iff}
 use Rattle.macros.specs.Answers.{Means}
 use Rattle.macros.specs.declared.Macro.{Macro}
 use Rattle.macros.proofs.VectorLaws.{value-place, value-at}
 use Rattle.macros.proofs.DistinctLaws.{vectors-equal, values-equal}
-use Rattle.macros.proofs.MeaningLaws.{means-canonical}
+use Rattle.macros.proofs.MeaningLaws.{lines-canonical}
 
 -- ── Conditions ───────────────────────────────────────────────────────────────────────────────────
 
@@ -32,36 +33,45 @@ conditions-equal p c n pc cp lp lc = ext-getD 0 p c n (λ i _. at (getD p i 0) (
         (λ k. ⊎-elim (λ j. omega (arith, value-constant y p j)) (λ j. omega (arith, value-place x c k, value-place y p j, lp (y % 16), lc (x % 16))) (below? y 16))
         (below? x 16)
 
+-- ── Lines ────────────────────────────────────────────────────────────────────────────────────────
+
+module _ (set : RuleSet) (valid : WellFormed set) where
+  -- a condition that is met wherever another one is leaves that one, as a state of entries, as it is
+  condition-kept : (c e : List ℕ) → LinesValid (set .positions) (set .sizes) c e → (d : List ℕ) → length d ≡ 16
+      → ((s : State) → StateOf set s → applicable c s ≡ true → applicable d s ≡ true) → valuesOf d c ≡ c
+  condition-kept c e v d n met =
+      let form = lines-canonical set valid c e v in
+      values-equal (set .positions) (set .sizes) c e form d c c (n ∙ sym (form .conditionLength)) (form .keepsItself) (form .keepsItself)
+      (λ s k h. ap (valuesOf d) h ∙ applicable-iff d s .0 (met s k (applicable-iff c s .1 h)) ∙ sym h)
+
+  -- two pairs of lines that are met by the same states, and lead to the same state from each of these, are equal
+  pub lines-unique : (c e d f : List ℕ) → LinesValid (set .positions) (set .sizes) c e → LinesValid (set .positions) (set .sizes) d f
+      → ((s : State) → StateOf set s → (applicable c s ≡ true) ↔ (applicable d s ≡ true))
+      → ((s : State) → StateOf set s → applicable c s ≡ true → successor e s ≡ successor f s) → (c ≡ d) × (e ≡ f)
+  unfolding successor
+  lines-unique c e d f v w met leads =
+      let form = lines-canonical set valid c e v in
+      let other = lines-canonical set valid d f w in
+      let p : c ≡ d =
+      conditions-equal c d (form .conditionLength ∙ sym (other .conditionLength)) (condition-kept d f w c (form .conditionLength) (λ s k. met s k .1)) (condition-kept c e v d (other .conditionLength) (λ s k. met s k .0))
+      (form .notLater) (other .notLater) in (
+        p,
+        vectors-equal (set .positions) (set .sizes) c e form e f (form .effectLength ∙ sym (other .effectLength)) (form .keepsEffect) (ap (valuesOf f) p ∙ other .keepsEffect)
+            (λ s k h. leads s k (applicable-iff c s .1 h)),
+      )
+
 -- ── Macros ───────────────────────────────────────────────────────────────────────────────────────
 
 module _ (set : RuleSet) (valid : WellFormed set) (q : Sequence) where
-  module _ (m n : Macro) (hm : Means set q m) (hn : Means set q n) where
-    -- a state that meets the one condition meets the other
-    also-meets : (s : State) → StateOf set s → valuesOf (n .condition) s ≡ s → valuesOf (m .condition) s ≡ s
-    also-meets s d e = applicable-iff (m .condition) s .0 (hm .runsWhere s d .1 (hn .runsWhere s d .0 (applicable-iff (n .condition) s .1 e)))
-
-    -- so the one condition, as a state of entries, meets the other
-    condition-kept : valuesOf (m .condition) (n .condition) ≡ n .condition
-    condition-kept =
-        let cn = means-canonical set valid q n hn in
-        values-equal (set .positions) (set .sizes) (n .condition) (n .effect) cn (m .condition) (n .condition) (n .condition)
-        (means-canonical set valid q m hm .conditionLength ∙ sym (cn .conditionLength)) (cn .keepsItself) (cn .keepsItself)
-        (λ s d e. ap (valuesOf (m .condition)) e ∙ also-meets s d e ∙ sym e)
-
-    same-effect : (s : State) → StateOf set s → valuesOf (m .condition) s ≡ s → valuesOf (m .effect) s ≡ valuesOf (n .effect) s
-    unfolding successor
-    same-effect s d e = let w = hm .runsWhere s d .0 (applicable-iff (m .condition) s .1 e) in hm .leadsTo s (w .0) d (w .1) ∙ sym (hn .leadsTo s (w .0) d (w .1))
+  -- a state that meets the condition of the one meets that of the other
+  also-meets : (m n : Macro) → Means set q m → Means set q n → (s : State) → StateOf set s → applicable (m .condition) s ≡ true → applicable (n .condition) s ≡ true
+  also-meets m n hm hn s d e = hn .runsWhere s d .1 (hm .runsWhere s d .0 e)
 
   -- two macros that mean the same sequence are equal
   pub means-unique : (m n : Macro) → Means set q m → Means set q n → m ≡ n
   means-unique m n hm hn =
-      let cm = means-canonical set valid q m hm in
-      let cn = means-canonical set valid q n hn in
-      let p : m .condition ≡ n .condition =
-      conditions-equal (m .condition) (n .condition) (cm .conditionLength ∙ sym (cn .conditionLength)) (condition-kept m n hm hn) (condition-kept n m hn hm)
-      (cm .notLater) (cn .notLater) in
-      let e : m .effect ≡ n .effect =
-      vectors-equal (set .positions) (set .sizes) (m .condition) (m .effect) cm (m .effect) (n .effect)
-      (cm .effectLength ∙ sym (cn .effectLength)) (cm .keepsEffect) (ap (valuesOf (n .effect)) p ∙ cn .keepsEffect) (same-effect m n hm hn) in
+      let w =
+      lines-unique set valid (m .condition) (m .effect) (n .condition) (n .effect) (hm .form) (hn .form) (λ s d. (also-meets m n hm hn s d, also-meets n m hn hm s d))
+      (λ s d e. let t = hm .runsWhere s d .0 e in hm .leadsTo s (t .0) d (t .1) ∙ sym (hn .leadsTo s (t .0) d (t .1))) in
       let c : m .cost ≡ n .cost = hm .costs ∙ sym (hn .costs) in
-      λ i. record { condition = p i; effect = e i; cost = c i }
+      λ i. record { condition = w .0 i; effect = w .1 i; cost = c i }
