@@ -54,7 +54,7 @@ module _ (set : RuleSet) (query : Query) where
   -- then the query's own causes decide in turn, and last the check's
   module _ (r : Ready set (query .reach) (length (query .table))) where
     own-refusal : firstRefusal (ownCauses set query) ≡ firstRefusal (queryCauses set query)
-    unfolding queryCauses
+    unfolding queryCauses tableCauses
     own-refusal = sym (past-shared r (ownCauses set query))
 
     pub start-refusal : startFits set (query .start) ≡ false → 9 ≡ firstRefusal (queryCauses set query)
@@ -82,7 +82,7 @@ module _ (set : RuleSet) (query : Query) where
 
   -- any other refusal of the check is the query's
   pub shared-refusal : checked ≢ 0 → checked ≢ 14 → checked ≡ firstRefusal (queryCauses set query)
-  unfolding checkOutcome checkCauses queryCauses buildOutcome
+  unfolding checkOutcome checkCauses queryCauses tableCauses buildOutcome
   shared-refusal h₀ h₁₄ = refusal-before shared (unaccepted set query ∷ []) refused ∙ sym (refusal-before shared (ownCauses set query) refused)
     where
       one-of : (b : Bool) → firstRefusal ((14, not b) ∷ []) ≢ 0 → firstRefusal ((14, not b) ∷ []) ≢ 14 → ⊥

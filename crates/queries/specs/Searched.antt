@@ -19,17 +19,20 @@ use Rattle.tables.specs.Answers.{tableCauses, ReachLimits, Ready}
 use Rattle.queries.specs.Query.{Query, startFits, goalFits, visitedBy, plansFor, StartFits, GoalFits, RunsWithin, LeadsToGoal, Unpruned}
 use Rattle.queries.specs.declared.Answer.{Answer}
 
--- the causes for which a query is refused before any sequence is visited, in document 01's order:
--- set, reach, table length, start, goal, more than 32 moves, plan buffer shorter than the move bound, table not accepted
-unfoldable pub queryCauses : RuleSet → Query → List Cause
-queryCauses set query =
+-- the causes for which a query is refused before its table's marks are judged, in document 01's order:
+-- set, reach, table length, start, goal, more than 32 moves, plan buffer shorter than the move bound
+abbrev pub requestCauses : RuleSet → Query → List Cause
+requestCauses set query =
     tableCauses set (query .reach) (length (query .table))
     ++ ((9, not (startFits set (query .start)))
     ∷ (10, not (goalFits set (query .goal)))
     ∷ (11, ltb 32 (query .maxMoves))
     ∷ (12, ltb (query .planSize) (query .maxMoves))
-    ∷ (14, not (accepted set (query .reach) (query .table)))
     ∷ [])
+
+-- the causes for which it is refused before any sequence is visited: last, that the table is not accepted
+unfoldable pub queryCauses : RuleSet → Query → List Cause
+queryCauses set query = requestCauses set query ++ ((14, not (accepted set (query .reach) (query .table))) ∷ [])
 
 -- of all plans the cheapest; of those that cost the same the first in document 01's order
 unfoldable pub cheapestPlan : RuleSet → Query → Option Sequence
