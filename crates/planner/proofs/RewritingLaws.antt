@@ -16,7 +16,7 @@ use Rattle.rules.specs.declared.Written.{Written}
 use Rattle.rules.proofs.RoundTrip.{accepted-iff, read-written}
 use Rattle.rules.proofs.WriterLaws.{writes-iff, invalid-iff, short-iff}
 use Rattle.rules.proofs.AgainLaws.{file-again}
-use Rattle.rules.proofs.RefusedLaws.{reading-bound, written-refused}
+use Rattle.rules.proofs.RefusedLaws.{reading-other, reading-bound, written-refused}
 use Rattle.rules.proofs.LengthLaws.{render-bound}
 use Rattle.rules.proofs.ReadTextLaws.{read-as}
 use Rattle.planner.specs.Rewriting.{rewritten, rewrittenBuffer, RewriteMeaning}
@@ -44,10 +44,10 @@ module _ (text : List ℕ) (room : ℕ) where
       record {
         again = (λ e. absurd (n e), λ w. absurd (n (accepted-iff text .1 (w .0))));
         sameText = λ e. absurd (n e);
-        tooLong = (λ e. absurd (omega (arith, e, reading-bound text)), λ w. absurd (n (accepted-iff text .1 (w .0))));
+        tooLong = (λ e. absurd (reading-other text 8 refl e), λ w. absurd (n (accepted-iff text .1 (w .0))));
         asRead = λ k _ _. (λ e. e, λ e. e);
         noText = λ _. (refl, refl);
-        never7 = λ e. omega (arith, e, reading-bound text);
+        never7 = reading-other text 7 refl;
       }
 
   module _ (taken : reading text .outcome ≡ 0) where

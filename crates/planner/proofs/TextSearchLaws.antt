@@ -8,7 +8,7 @@ use native.Mathlib.Omega.{arith}
 use lib.ListN.{replicate}
 use Rattle.theory.proofs.TestLaws.{equal?}
 use Rattle.rules.specs.Reading.{reading}
-use Rattle.rules.proofs.RefusedLaws.{reading-bound}
+use Rattle.rules.proofs.RefusedLaws.{reading-other, reading-byte}
 use Rattle.rules.proofs.ReadTextLaws.{read-valid}
 use Rattle.queries.specs.Query.{Query}
 use Rattle.queries.specs.Searched.{Searched, searched, noMove, SearchMeaning}
@@ -45,7 +45,7 @@ module _ (text : List ℕ) (query : Query) where
         length = omega (arith, length-bound set query);
         steps = omega (arith, steps-bound set query, h);
       })
-      (record { outcome = omega (arith, reading-bound text); cost = omega arith; length = omega arith; steps = omega arith })
+      (record { outcome = reading-byte text; cost = omega arith; length = omega arith; steps = omega arith })
 
   -- demand 1: without a plan it blanks the whole plan buffer, refused texts included
   pub entry-blank : searchedText text query .answer .outcome ≢ 0
@@ -62,7 +62,7 @@ module _ (text : List ℕ) (query : Query) where
   never-invalid e =
       let outcome : Searched → ℕ = λ found. found .answer .outcome in
       ⊎-elim (λ h. search-meaning (reading text .set) query .notValid .0 (sym (ap outcome (read-text h)) ∙ e) (read-valid text h))
-      (λ n. omega (arith, e, ap outcome (refused-text n), reading-bound text))
+      (λ n. reading-other text 7 refl (sym (ap outcome (refused-text n)) ∙ e))
       (equal? (reading text .outcome) 0)
 
   -- ── What it means ──────────────────────────────────────────────────────────────────────────────

@@ -1,6 +1,6 @@
 -- What the entries on tables give of a text that is read and of one that is refused, and what it means; and that the length that is told can be built, and what is built passes the check.
 -- Assumes nothing.
-use mathlib.Core.Path.{_≡_, sym, ap, _∙_}
+use mathlib.Core.Path.{_≡_, refl, sym, ap, _∙_}
 use mathlib.Core.Logic.{_≢_, ⊎-elim}
 use mathlib.Core.List.{List}
 use Prim.Native.Nat.{ℕ, _≤_, _<_}
@@ -11,7 +11,7 @@ use Rattle.model.specs.Validity.{Valid}
 use Rattle.model.specs.declared.RuleSet.{RuleSet}
 use Rattle.model.proofs.RefusalLaws.{refusal-at-most}
 use Rattle.rules.specs.Reading.{reading}
-use Rattle.rules.proofs.RefusedLaws.{reading-bound}
+use Rattle.rules.proofs.RefusedLaws.{reading-other, reading-byte}
 use Rattle.rules.proofs.ReadTextLaws.{read-valid}
 use Rattle.tables.specs.declared.TableSize.{TableSize}
 use Rattle.tables.specs.Answers.{sizeCauses, tableSize, buildOutcome, builtBuffer, checkOutcome}
@@ -24,7 +24,7 @@ use Rattle.planner.proofs.OfTextLaws.{of-read, of-refused}
 pub not-7 : (text : List ℕ) (outcome : ℕ) → (reading text .outcome ≢ 0 → outcome ≡ reading text .outcome)
     → (reading text .outcome ≡ 0 → outcome ≡ 7 → Valid (reading text .set) → ⊥) → outcome ≢ 7
 not-7 text outcome refused invalid e =
-    ⊎-elim (λ z. invalid z e (read-valid text z)) (λ h. omega (arith, refused h, reading-bound text)) (equal? (reading text .outcome) 0)
+    ⊎-elim (λ z. invalid z e (read-valid text z)) (λ h. absurd (reading-other text 7 refl (sym (refused h) ∙ e))) (equal? (reading text .outcome) 0)
 
 size-outcome : (set : RuleSet) (reach : ℕ) → tableSize set reach .outcome ≤ 7
 unfolding tableSize
@@ -43,7 +43,7 @@ module _ (text : List ℕ) (reach : ℕ) where
   pub size-byte : textTableSize text reach .outcome < 256
   size-byte =
       ⊎-elim (λ e. omega (arith, ap (λ (a : TableSize). a .outcome) (size-read e), size-outcome (reading text .set) reach))
-      (λ h. omega (arith, ap (λ (a : TableSize). a .outcome) (size-refused h), reading-bound text)) (equal? (reading text .outcome) 0)
+      (λ h. omega (arith, ap (λ (a : TableSize). a .outcome) (size-refused h), reading-byte text)) (equal? (reading text .outcome) 0)
 
   pub text-size-meaning : TextSizeMeaning text reach (textTableSize text reach)
   text-size-meaning = record {

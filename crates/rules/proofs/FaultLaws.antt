@@ -3,14 +3,16 @@
 use mathlib.Core.Path.{_≡_, sym, ap, _∙_}
 use mathlib.Core.Logic.{_≢_, _↔_}
 use mathlib.Core.List.{List, _∷_}
+use mathlib.Core.List.{List·Memᴰ·head, List·Memᴰ·tail, List·Memᴰ·not-nil}
 use Prim.Native.Nat.{ℕ, zero, _≤_}
 use native.Mathlib.Omega.{arith}
+use Rattle.theory.specs.Lists.{_∈_}
 use Rattle.rules.specs.Reading.{refused, reading}
 use Rattle.rules.specs.Faults.{FileFault, leftOver, NoOther}
 use Rattle.rules.proofs.FileLaws.{file-read}
 use Rattle.rules.proofs.ReadingLaws.{Ends, inLine, tooLong, duplicated, accepted, reading-ends}
 use Rattle.rules.proofs.LineFaultLaws.{lines-refused, fault-refused}
-use Rattle.rules.proofs.RefusedLaws.{reading-bound}
+use Rattle.rules.proofs.RefusedLaws.{readNumbers, reading-numbers}
 use Rattle.rules.proofs.RoundTrip.{accepted-iff, duplicates-iff}
 
 -- an outcome from 1 to 3 is given exactly where the text has that fault
@@ -44,5 +46,13 @@ rest-iff text = (
       let two : reading text .outcome ≢ 2 = λ e. f .1 (limit-iff text .0 e) in
       let three : reading text .outcome ≢ 3 = λ e. f .2 (place-iff text .0 e) in
       let four : reading text .outcome ≢ 4 = λ e. f .3 (duplicates-iff text .0 e) in
-      omega (arith, reading-bound text),
+      left zero two three four (reading-numbers text),
 )
+  where
+    left : reading text .outcome ≢ 0 → reading text .outcome ≢ 2 → reading text .outcome ≢ 3 → reading text .outcome ≢ 4 → reading text .outcome ∈ readNumbers → reading text .outcome ≡ 1
+    left n₀ n₂ n₃ n₄ (List·Memᴰ·head e) = absurd (n₀ e)
+    left n₀ n₂ n₃ n₄ (List·Memᴰ·tail (List·Memᴰ·head e)) = e
+    left n₀ n₂ n₃ n₄ (List·Memᴰ·tail (List·Memᴰ·tail (List·Memᴰ·head e))) = absurd (n₂ e)
+    left n₀ n₂ n₃ n₄ (List·Memᴰ·tail (List·Memᴰ·tail (List·Memᴰ·tail (List·Memᴰ·head e)))) = absurd (n₃ e)
+    left n₀ n₂ n₃ n₄ (List·Memᴰ·tail (List·Memᴰ·tail (List·Memᴰ·tail (List·Memᴰ·tail (List·Memᴰ·head e))))) = absurd (n₄ e)
+    left n₀ n₂ n₃ n₄ (List·Memᴰ·tail (List·Memᴰ·tail (List·Memᴰ·tail (List·Memᴰ·tail (List·Memᴰ·tail d))))) = absurd (List·Memᴰ·not-nil d)

@@ -1,16 +1,17 @@
--- What a refused reading and a refused writing leave, that a reading's outcome is at most 4, and that the writer's buffer keeps its length.
+-- What a refused reading and a refused writing leave, which numbers a reading gives, and that the writer's buffer keeps its length.
 -- Assumes nothing.
-use mathlib.Core.Path.{_≡_, refl, ap}
+use mathlib.Core.Path.{_≡_, refl, sym, ap}
 use mathlib.Core.Logic.{_≢_}
 use mathlib.Core.Bool.{Bool, true, false, cond}
-use mathlib.Core.List.{List, []}
-use Prim.Native.Nat.{ℕ, _-_, _≤_}
+use mathlib.Core.List.{List, [], _∷_}
+use Prim.Native.Nat.{ℕ, _-_, _≤_, _<_}
 use native.Mathlib.Omega.{arith}
-use lib.Dec.{eqb}
+use lib.Dec.{leb, ltb, eqb}
 use lib.ListN.{length, replicate}
 use borrow.Author.Tests.{eqb-true}
-use Rattle.theory.specs.Lists.{padded}
-use Rattle.theory.proofs.ListLaws.{padded-length}
+use Rattle.theory.specs.Lists.{_∈_, any, padded}
+use Rattle.theory.proofs.ListLaws.{not-both, true-any, every-at, padded-length, in-numbersFrom}
+use Rattle.theory.proofs.TestLaws.{leb-iff, ltb-iff, eqb-iff}
 use Rattle.model.specs.Refusals.{firstRefusal}
 use Rattle.model.specs.Rules.{emptySet}
 use Rattle.model.specs.declared.RuleSet.{RuleSet}
@@ -23,15 +24,33 @@ use Rattle.rules.proofs.WriterLaws.{writes-iff}
 
 -- ── Reading ──────────────────────────────────────────────────────────────────────────────────────
 
--- the outcome of a reading is at most 4
-pub reading-bound : (text : List ℕ) → reading text .outcome ≤ 4
-reading-bound text = go (reading-ends text)
+-- the numbers that a reading gives: 0, and its refusals
+abbrev pub readNumbers : List ℕ
+readNumbers = 0 ∷ 1 ∷ 2 ∷ 3 ∷ 4 ∷ []
+
+pub reading-numbers : (text : List ℕ) → reading text .outcome ∈ readNumbers
+reading-numbers text = go (reading-ends text)
   where
-    go : Ends text (reading text) → reading text .outcome ≤ 4
-    go (inLine n e r) = omega (arith, ap (λ r. r .outcome) r, lines-limits text n e)
-    go (tooLong set b rest e r) = omega (arith, ap (λ r. r .outcome) r)
-    go (duplicated set e d r) = omega (arith, ap (λ r. r .outcome) r)
-    go (accepted set e d r) = omega (arith, ap (λ r. r .outcome) r)
+    listed : (n : ℕ) → n ≤ 4 → n ∈ readNumbers
+    listed n h = in-numbersFrom 0 5 n (omega arith) (omega arith)
+
+    go : Ends text (reading text) → reading text .outcome ∈ readNumbers
+    go (inLine n e r) = listed (reading text .outcome) (omega (arith, ap (λ r. r .outcome) r, lines-limits text n e))
+    go (tooLong set b rest e r) = listed (reading text .outcome) (omega (arith, ap (λ r. r .outcome) r))
+    go (duplicated set e d r) = listed (reading text .outcome) (omega (arith, ap (λ r. r .outcome) r))
+    go (accepted set e d r) = listed (reading text .outcome) (omega (arith, ap (λ r. r .outcome) r))
+
+-- no other number
+pub reading-other : (text : List ℕ) (n : ℕ) → any (eqb n) readNumbers ≡ false → reading text .outcome ≢ n
+reading-other text n none e = not-both (true-any (eqb n) (reading-numbers text) (eqb-iff n (reading text .outcome) .1 (sym e))) none
+
+-- each fits one byte
+pub reading-byte : (text : List ℕ) → reading text .outcome < 256
+reading-byte text = ltb-iff (reading text .outcome) 256 .0 (every-at (λ n. ltb n 256) refl (reading-numbers text))
+
+-- and is at most 4
+pub reading-bound : (text : List ℕ) → reading text .outcome ≤ 4
+reading-bound text = leb-iff (reading text .outcome) 4 .0 (every-at (λ n. leb n 4) refl (reading-numbers text))
 
 -- a refused reading gives the empty set
 pub reading-refused : (text : List ℕ) → reading text .outcome ≢ 0 → reading text .set ≡ emptySet
