@@ -17,13 +17,13 @@ use Rattle.theory.specs.Sequences.{Sequence, Numbered, sequences}
 use Rattle.theory.specs.Indices.{indexOf, sequenceOf}
 use Rattle.theory.specs.Recursion.{last, suffixes, shortSuffixes}
 use Rattle.theory.proofs.ListLaws.{same-test, in-getD}
-use Rattle.theory.proofs.TestLaws.{below?, eqb-iff, not-iff}
+use Rattle.theory.proofs.TestLaws.{below?, eqb-iff}
 use Rattle.theory.proofs.SequenceLaws.{numbered-right, of-sequences}
 use Rattle.theory.proofs.IndexLaws.{index-snoc, index-at, sequence-at, index-of-place}
 use Rattle.model.specs.declared.RuleSet.{RuleSet}
-use Rattle.tables.specs.Table.{sequenceCount, tableEntries, sequenceAt, kept, entryAt, marked}
+use Rattle.tables.specs.Table.{sequenceCount, tableEntries, kept, entryAt, marked}
 use Rattle.tables.proofs.CountLaws.{count-sequences, count-next}
-use Rattle.tables.proofs.TableLaws.{marked-iff}
+use Rattle.tables.proofs.TableLaws.{mark-index}
 use Rattle.search.specs.Lookup.{markedAt, suffixMarked, LooksUp}
 
 -- ── The last rules ───────────────────────────────────────────────────────────────────────────────
@@ -69,25 +69,8 @@ last-suffixes n (r ∷ q) = go (below? n (suc (length q))) (last-suffixes n q)
 module _ (set : RuleSet) (reach : ℕ) (table : List ℕ) where
   -- a sequence of at most `reach` rules of the set is marked exactly if the entry at its index is a mark
   mark-at : (q : Sequence) → length q ≤ reach → Numbered (set .count) q → markedAt (set .count) table q ≡ marked set reach table q
-  unfolding markedAt sequenceAt tableEntries
-  mark-at q h k = same-test (not (eqb (entryAt table place) kept)) (marked set reach table q) down up
-    where
-      place : ℕ
-      place = indexOf (set .count) q
-
-      size : length (sequences (set .count) reach) ≡ sequenceCount (set .count) reach
-      size = count-sequences (set .count) reach
-
-      down : not (eqb (entryAt table place) kept) ≡ true → marked set reach table q ≡ true
-      down e =
-          let w = index-at (set .count) reach q h k in
-          marked-iff set reach table q .1 (place, subst (λ n. place < n) size (w .0), (w .1, not-iff _ (eqb-iff (entryAt table place) kept) .0 e))
-
-      up : marked set reach table q ≡ true → not (eqb (entryAt table place) kept) ≡ true
-      up e =
-          let w = marked-iff set reach table q .0 e in
-          let i : w .0 ≡ place = sym (index-of-place (set .count) reach (w .0) (subst (λ n. w .0 < n) (sym size) (w .1))) ∙ ap (indexOf (set .count)) (w .2 .0) in
-          not-iff _ (eqb-iff (entryAt table place) kept) .1 (subst (λ j. entryAt table j ≢ kept) i (w .2 .1))
+  unfolding markedAt
+  mark-at q h k = sym (mark-index set reach table q h k)
 
   -- so with its suffixes
   suffix-marks : (q : Sequence) → length q ≤ reach → Numbered (set .count) q → suffixMarked (set .count) table q ≡ any (marked set reach table) (suffixes q)

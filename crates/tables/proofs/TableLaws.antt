@@ -2,7 +2,7 @@
 -- Assumes nothing.
 use mathlib.Core.Path.{_≡_, refl, sym, ap, ap₂, _∙_, subst}
 use mathlib.Core.Logic.{_↔_, _⊎_, inl, inr, _≢_, ⊎-elim}
-use mathlib.Core.Bool.{Bool, true, false, cond}
+use mathlib.Core.Bool.{Bool, true, false, not, cond}
 use mathlib.Core.List.{List, [], _∷_}
 use Prim.Native.Nat.{ℕ, zero, suc, _+_, _*_, _/_, _%_, _≤_, _<_}
 use native.Mathlib.Nat.{zero-add, add-zero, mod-add-div}
@@ -20,7 +20,7 @@ use Rattle.theory.proofs.ListLaws.{and-split, and-join, same-test, not-both, ev
 use Rattle.theory.proofs.TestLaws.{below?, equal?, ltb-iff, eqb-iff, same-iff, not-iff, and-iff, unless-iff, every-below-iff, any-below-iff}
 use Rattle.theory.proofs.SequenceLaws.{of-sequences}
 use Rattle.theory.proofs.OrderLaws.{sequences-index, index-sequences}
-use Rattle.theory.proofs.IndexLaws.{index-at}
+use Rattle.theory.proofs.IndexLaws.{index-at, index-of-place}
 use Rattle.model.specs.Rules.{stepOf, ruleCost, StateOf, admitted, redundant, RedundantIn}
 use Rattle.model.specs.declared.RuleSet.{RuleSet}
 use Rattle.model.proofs.RedundancyLaws.{redundant-iff, redundant-trans, not-admitted-redundant}
@@ -146,6 +146,25 @@ module _ (set : RuleSet) (reach : ℕ) where
   unfolding marked
   marked-iff table q =
       any-below-iff _ _ (λ i. and-iff _ _ (same-rev-iff q (sequenceAt set reach i)) (not-iff _ (eqb-iff (entryAt table i) kept))) (tableEntries set reach)
+
+  -- a sequence of at most `reach` rules of the set is marked exactly if the entry at its index is a mark
+  pub mark-index : (table : List ℕ) (q : Sequence) → length q ≤ reach → Numbered (set .count) q → marked set reach table q ≡ not (eqb (entryAt table (indexOf (set .count) q)) kept)
+  unfolding sequenceAt
+  mark-index table q h k = same-test (marked set reach table q) (not (eqb (entryAt table place) kept)) up down
+    where
+      place : ℕ
+      place = indexOf (set .count) q
+
+      up : marked set reach table q ≡ true → not (eqb (entryAt table place) kept) ≡ true
+      up e =
+          let w = marked-iff table q .0 e in
+          let i : w .0 ≡ place = sym (index-of-place (set .count) reach (w .0) (omega (arith, entries-length, w .1))) ∙ ap (indexOf (set .count)) (w .2 .0) in
+          not-iff _ (eqb-iff (entryAt table place) kept) .1 (subst (λ j. entryAt table j ≢ kept) i (w .2 .1))
+
+      down : not (eqb (entryAt table place) kept) ≡ true → marked set reach table q ≡ true
+      down e =
+          let w = index-at (set .count) reach q h k in
+          marked-iff table q .1 (place, omega (arith, entries-length, w .0), (w .1, not-iff _ (eqb-iff (entryAt table place) kept) .0 e))
 
   -- a marked sequence has at most `reach` rules, of the set
   pub marked-short : (table : List ℕ) (q : Sequence) → marked set reach table q ≡ true → (length q ≤ reach) × Numbered (set .count) q
