@@ -12,7 +12,7 @@ use lib.ListN.{length, getD, set, drop, drop-of-length-le}
 use lib.Dec.{eqb}
 use lib.Seq.{drop-cons, set-getD}
 use borrow.Author.Tests.{eq-eqb, ne-eqb, not-true, not-false}
-use Rattle.theory.specs.Lists.{any, every, numbersFrom, same}
+use Rattle.theory.specs.Lists.{any, every, numbersFrom, same, firstThat}
 
 -- ── A test of the numbers from 0 to n ────────────────────────────────────────────────────────────
 
@@ -45,6 +45,17 @@ module _ (p : ℕ → Bool) (i n : ℕ) (X : Bool) where
 
   pub any-end : any p (numbersFrom i (n - i)) ≡ X → n ≤ i → false ≡ X
   any-end inv h = sym (rw (left-none i n h)) ∙ inv
+
+-- the first that passes: what is left at i decides it
+module _ (p : ℕ → Bool) (i n X : ℕ) where
+  pub first-go : firstThat p (numbersFrom i (n - i)) ≡ X → i < n → p i ≡ false → firstThat p (numbersFrom (i + 1) (n - (i + 1))) ≡ X
+  first-go inv h t = sym (rw (left-more i n h, t)) ∙ inv
+
+  pub first-stop : firstThat p (numbersFrom i (n - i)) ≡ X → i < n → p i ≡ true → i ≡ X
+  first-stop inv h t = sym (rw (left-more i n h, t)) ∙ inv
+
+  pub first-end : firstThat p (numbersFrom i (n - i)) ≡ X → n ≤ i → 0 ≡ X
+  first-end inv h = sym (rw (left-none i n h)) ∙ inv
 
 pub any-start : (p : ℕ → Bool) (n : ℕ) → any p (numbersFrom 0 (n - 0)) ≡ any p (numbersFrom 0 n)
 any-start p n = let e : n - 0 ≡ n = omega arith in rw e

@@ -1,15 +1,15 @@
 -- When a test passes, as a statement: `(test ≡ true) ↔ statement`, for the tests on numbers and lists and for tests put together.
 -- Assumes nothing.
-use mathlib.Core.Path.{_≡_, refl, subst}
-use mathlib.Core.Logic.{_↔_, _⊎_, inl, inr}
+use mathlib.Core.Path.{_≡_, refl, sym, ap, _∙_, subst}
+use mathlib.Core.Logic.{_↔_, _⊎_, inl, inr, _≢_, ⊎-elim}
 use mathlib.Core.Bool.{Bool, true, false, not, cond, _&&_, _||_, false≢true}
 use mathlib.Core.List.{List}
-use Prim.Native.Nat.{ℕ, _≤_, _<_}
+use Prim.Native.Nat.{ℕ, zero, suc, _+_, _≤_, _<_}
 use lib.Dec.{leb, ltb, eqb}
 use native.Mathlib.Omega.{arith}
 use borrow.Author.Tests.{leb-true, le-leb, ltb-true, ltb-false, lt-ltb, eqb-true, eqb-false, eq-eqb}
-use Rattle.theory.specs.Lists.{_∈_, any, every, numbersFrom, within, same}
-use Rattle.theory.proofs.ListLaws.{and-split, and-join, every-at, true-every, any-true, true-any, of-numbersFrom, in-numbersFrom, same-true, same-refl}
+use Rattle.theory.specs.Lists.{_∈_, any, every, numbersFrom, within, same, firstThat}
+use Rattle.theory.proofs.ListLaws.{not-both, and-split, and-join, every-at, true-every, any-true, true-any, of-numbersFrom, in-numbersFrom, same-true, same-refl}
 
 -- a number is below another or not
 pub below? : (i n : ℕ) → (i < n) ⊎ (n ≤ i)
@@ -88,3 +88,58 @@ module _ (p : ℕ → Bool) (P : ℕ → Type 0) (each : (i : ℕ) → (p i ≡ 
   any-below-iff =
       let w = any-iff p P each (numbersFrom 0 n) in
       (λ e. let v = w .0 e in let b = of-numbersFrom 0 n (v .1) in (v .0, omega arith, v .2), λ v. w .1 (v .0, in-numbersFrom 0 n (v .0) (omega arith) (omega arith), v .2))
+
+-- ── The first number from i on that passes a test ────────────────────────────────────────────────
+
+module _ (test : ℕ → Bool) where
+  -- none of the n numbers from i on passes
+  abbrev pub NonePasses : ℕ → ℕ → Type 0
+  NonePasses i n = (j : ℕ) → i ≤ j → j < i + n → test j ≡ false
+
+  -- k is the least of them that passes
+  abbrev pub FirstPasses : ℕ → ℕ → ℕ → Type 0
+  FirstPasses i n k = (i ≤ k) × (k < i + n) × (test k ≡ true) × ((j : ℕ) → i ≤ j → j < k → test j ≡ false)
+
+  -- behind a number that does not pass
+  none-behind : (i n : ℕ) → test i ≡ false → NonePasses (suc i) n → NonePasses i (suc n)
+  none-behind i n e f j h k = ⊎-elim (λ d. ap test d ∙ e) (λ d. f j (omega arith) (omega arith)) (equal? j i)
+
+  first-behind : (i n k : ℕ) → test i ≡ false → FirstPasses (suc i) n k → FirstPasses i (suc n) k
+  first-behind i n k e w =
+      let low = w .0 in
+      let high = w .1 in
+      (omega arith, omega arith, w .2, λ j h b. ⊎-elim (λ d. ap test d ∙ e) (λ d. w .3 j (omega arith) b) (equal? j i))
+
+  pub first-that : (i n : ℕ) → ((firstThat test (numbersFrom i n) ≡ 0) × NonePasses i n) ⊎ FirstPasses i n (firstThat test (numbersFrom i n))
+  first-that i zero = inl (refl, λ j h k. absurd (omega arith))
+  first-that i (suc n) = go (test i) refl (first-that (suc i) n)
+    where
+      later : ℕ
+      later = firstThat test (numbersFrom (suc i) n)
+
+      go : (b : Bool) → test i ≡ b → ((later ≡ 0) × NonePasses (suc i) n) ⊎ FirstPasses (suc i) n later
+          → ((cond b i later ≡ 0) × NonePasses i (suc n)) ⊎ FirstPasses i (suc n) (cond b i later)
+      go true e w = inr (omega arith, omega arith, e, λ j h k. absurd (omega arith))
+      go false e (inl w) = inl (w .0, none-behind i n e (w .1))
+      go false e (inr w) = inr (first-behind i n later e w)
+
+  -- counted from 1 or more on it is 0 exactly if none passes
+  pub first-none-iff : (i n : ℕ) → 1 ≤ i → (firstThat test (numbersFrom i n) ≡ 0) ↔ NonePasses i n
+  first-none-iff i n one = (λ e. ⊎-elim (λ w. w .1) (λ w. let low = w .0 in absurd (omega arith)) (first-that i n), λ f. ⊎-elim (λ w. w .0) (λ w. not-both (w .2) (f _ (w .0) (w .1))) (first-that i n))
+
+  -- and k exactly if k is the least that passes
+  pub first-that-iff : (i n k : ℕ) → 1 ≤ i → (firstThat test (numbersFrom i n) ≡ k) × (k ≢ 0) ↔ FirstPasses i n k
+  first-that-iff i n k one = (
+    λ w. ⊎-elim (λ v. absurd (w .1 (sym (w .0) ∙ v .0))) (λ v. subst (FirstPasses i n) (w .0) v) (first-that i n),
+    λ v.
+        let low = v .0 in (
+          ⊎-elim (λ w. not-both (v .2) (w .1 k (v .0) (v .1))) (λ w. least (firstThat test (numbersFrom i n)) w v) (first-that i n),
+          λ e. omega arith,
+        ),
+  )
+    where
+      least : (m : ℕ) → FirstPasses i n m → FirstPasses i n k → m ≡ k
+      least m w v =
+          ⊎-elim (λ e. e)
+          (λ d. ⊎-elim (λ h. not-both (w .2) (v .3 m (w .0) h)) (λ h. not-both (v .2) (w .3 k (v .0) (omega arith))) (below? m k))
+          (equal? m k)
