@@ -32,10 +32,10 @@ initial-snoc [] r = refl
 initial-snoc (p ∷ []) r = refl
 initial-snoc (p ∷ s ∷ x) r = ap {B = Sequence} (λ q. p ∷ q) (initial-snoc (s ∷ x) r)
 
-in-is : {l : List Sequence} {q : Sequence} → q ∈ l → isIn l q ≡ true
+pub in-is : {l : List Sequence} {q : Sequence} → q ∈ l → isIn l q ≡ true
 in-is {l} {q} d = true-any (same q) d (same-refl q)
 
-is-in : (l : List Sequence) (q : Sequence) → isIn l q ≡ true → q ∈ l
+pub is-in : (l : List Sequence) (q : Sequence) → isIn l q ≡ true → q ∈ l
 is-in l q h = let w = any-true (same q) l h in subst (λ (p : Sequence). p ∈ l) (sym (same-true q (w .0) (w .2))) (w .1)
 
 -- ── The least cost ───────────────────────────────────────────────────────────────────────────────

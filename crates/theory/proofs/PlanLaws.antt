@@ -8,8 +8,8 @@ use mathlib.Core.List.{List, [], _∷_}
 use mathlib.Core.List.{List·Memᴰ·head, List·Memᴰ·tail, List·Memᴰ·not-nil}
 use Prim.Native.Nat.{ℕ, _≤_, _<_}
 use native.Mathlib.Omega.{arith}
-use lib.Dec.{ltb, eqb}
-use lib.ListN.{length}
+use lib.Dec.{leb, ltb, eqb}
+use lib.ListN.{length, take}
 use borrow.Author.Tests.{ltb-true, lt-ltb, eqb-true, eq-eqb, le-leb, ltb-false}
 use Rattle.theory.specs.Lists.{_∈_, keep, keepIf, Pairwise, isSome}
 use Rattle.theory.specs.Sequences.{Sequence, run, costOf, sequences, depthFirst}
@@ -21,6 +21,7 @@ use Rattle.theory.proofs.ListLaws.{or-split, or-left, or-right, and-spl
 use Rattle.theory.proofs.SequenceLaws.{of-sequences, in-sequences, of-depthFirst, in-depthFirst}
 use Rattle.theory.proofs.OrderLaws.{sequences-ordered, depthFirst-ordered}
 use Rattle.theory.proofs.CheapestLaws.{preferred-trans, least-unique, cheapest-none, cheapest-least}
+use Rattle.theory.proofs.FloorLaws.{isIn, in-is, is-in, of-take, pairwise-take}
 use Rattle.theory.proofs.PruningLaws.{in-endsIn, of-plan, cheapest-not-pruned}
 use Rattle.theory.proofs.VisitLaws.{of-allowed, in-allowed}
 
@@ -137,10 +138,9 @@ module _ (cost : ℕ → ℕ) where
 plans-ordered : {A : Type 0} (step : ℕ → A → Option A) (cost : ℕ → ℕ) (m : ℕ) (start : A) (goal : A → Bool) (maxMoves maxCost : ℕ) → Pairwise Before (candidates step cost m start goal maxMoves maxCost)
 plans-ordered step cost m start goal maxMoves maxCost = pairwise-keep Before (isPlan step cost start goal maxCost) (sequences m maxMoves) (sequences-ordered m maxMoves)
 
--- a search that visits the sequences that pass a test answers with the cheapest plan of all, where those that pass can be run within the cost bound and the cheapest plan passes
+-- a search that visits the sequences that pass a test, of which each is within the cost bound
 module _ {A : Type 0} (step : ℕ → A → Option A) (cost : ℕ → ℕ) (m : ℕ) (start : A) (goal : A → Bool) (maxMoves maxCost : ℕ) (good : Sequence → Bool)
-    (bounded : (q : Sequence) → good q ≡ true → costOf cost q ≤ maxCost)
-    (passes : (p : Sequence) → cheapest cost (candidates step cost m start goal maxMoves maxCost) ≡ some p → good p ≡ true) where
+    (bounded : (q : Sequence) → good q ≡ true → costOf cost q ≤ maxCost) where
   abbrev plans : List Sequence
   plans = candidates step cost m start goal maxMoves maxCost
 
@@ -167,13 +167,41 @@ module _ {A : Type 0} (step : ℕ → A → Option A) (cost : ℕ → ℕ) (m : 
       let t = of-plan step cost start goal maxCost q (u .1) in
       in-keep (reaches step start goal) (in-keep good (in-depthFirst m maxMoves q (w .0) (w .1)) h) (in-endsIn goal (run step q start) (t .0) (t .1) (t .2))
 
-  -- the search answers with the cheapest plan; where there is no plan, with none
-  pub best-of-good : best cost (reaches step start goal) none (keep good (depthFirst m maxMoves)) ≡ cheapest cost (candidates step cost m start goal maxMoves maxCost)
-  best-of-good =
+  -- where the cheapest plan passes, the search answers with it; where there is no plan, with none
+  pub best-of-good : ((p : Sequence) → cheapest cost (candidates step cost m start goal maxMoves maxCost) ≡ some p → good p ≡ true)
+      → best cost (reaches step start goal) none (keep good (depthFirst m maxMoves)) ≡ cheapest cost (candidates step cost m start goal maxMoves maxCost)
+  best-of-good passes =
       let ordered = plans-ordered step cost m start goal maxMoves maxCost in
       best-agrees cost (reaches step start goal) (keep good (depthFirst m maxMoves)) plans found-ordered ordered found-plans (λ p e. plans-found p (cheapest-least cost plans ordered p e .0) (passes p e))
 
--- and so does the search that visits what justified marks leave
+  -- the best of the first n that it visits is the cheapest of the plans among these
+  pub best-looked : (n : ℕ)
+      → best cost (reaches step start goal) none (take n (keep good (depthFirst m maxMoves))) ≡ cheapest cost (keep (isIn (take n (keep good (depthFirst m maxMoves)))) (candidates step cost m start goal maxMoves maxCost))
+  best-looked n = best-agrees cost (reaches step start goal) looked (keep (isIn looked) plans) lex ordered inside outside
+    where
+      looked : List Sequence
+      looked = take n (keep good (depthFirst m maxMoves))
+
+      lex : Pairwise LexBefore (keep (reaches step start goal) looked)
+      lex =
+          pairwise-keep LexBefore (reaches step start goal) looked
+          (pairwise-take LexBefore n (keep good (depthFirst m maxMoves)) (pairwise-keep LexBefore good (depthFirst m maxMoves) (depthFirst-ordered m maxMoves)))
+
+      ordered : Pairwise Before (keep (isIn looked) plans)
+      ordered = pairwise-keep Before (isIn looked) plans (plans-ordered step cost m start goal maxMoves maxCost)
+
+      inside : (q : Sequence) → q ∈ keep (reaches step start goal) looked → q ∈ keep (isIn looked) plans
+      inside q d =
+          let u = of-keep (reaches step start goal) looked d in
+          in-keep (isIn looked) (found-plans q (in-keep (reaches step start goal) (of-take n (keep good (depthFirst m maxMoves)) (u .0)) (u .1))) (in-is (u .0))
+
+      outside : (p : Sequence) → cheapest cost (keep (isIn looked) plans) ≡ some p → p ∈ keep (reaches step start goal) looked
+      outside p e =
+          let u = of-keep (isIn looked) plans (cheapest-least cost (keep (isIn looked) plans) ordered p e .0) in
+          let w = of-keep (isPlan step cost start goal maxCost) (sequences m maxMoves) (u .0) in
+          in-keep (reaches step start goal) (is-in looked p (u .1)) (and-split (reaches step start goal p) (leb (costOf cost p) maxCost) (w .1) .0)
+
+-- a search that visits what justified marks leave
 module _ {A : Type 0} (step : ℕ → A → Option A) (cost : ℕ → ℕ) (m : ℕ) (Valid : A → Type 0) (closed : Closed step m Valid)
     (marked : Sequence → Bool) (justified : Justified step cost m Valid marked)
     (start : A) (valid : Valid start) (goal : A → Bool) (maxMoves maxCost : ℕ) where
@@ -184,6 +212,7 @@ module _ {A : Type 0} (step : ℕ → A → Option A) (cost : ℕ → ℕ) (m : 
       let t = of-plan step cost start goal maxCost p (of-keep (isPlan step cost start goal maxCost) (sequences m maxMoves) d .1) in
       and-join (ap isSome (t .1)) (in-allowed cost marked maxCost p (t .3) (cheapest-not-pruned step cost m Valid closed marked justified start goal maxMoves maxCost p valid e))
 
+  -- so the search answers with the cheapest plan; where there is no plan, with none
   pub best-cheapest : best cost (reaches step start goal) none (visited step cost m marked start maxMoves maxCost) ≡ cheapest cost (candidates step cost m start goal maxMoves maxCost)
   best-cheapest =
       best-of-good step cost m start goal maxMoves maxCost (isVisited step cost marked start maxCost)
