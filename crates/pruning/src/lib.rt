@@ -14,23 +14,19 @@ use witnesses::entry_for;
 ghost use mathlib.Core.Path.{_≡_};
 ghost use Prim.Native.Nat.{_+_, _*_, _≤_, _<_};
 ghost use lib.ListN.{length};
+ghost use Rattle.model.specs.Refusals.{firstRefusal};
 ghost use Rattle.model.specs.Validity.{WellFormed};
 ghost use Rattle.tables.specs.Table.{tableEntries, entryAt, builtTable, entryJustified, accepted};
-ghost use Rattle.tables.specs.Answers.{tableSize, SizeMeaning, buildOutcome, builtBuffer, BuildMeaning, checkOutcome, CheckMeaning};
+ghost use Rattle.tables.specs.Answers.{reachCauses, shapeCauses, markCauses, sizeWith, builtWith, tableSize, SizeMeaning, buildOutcome, builtBuffer, BuildMeaning, checkOutcome, CheckMeaning};
 
 // The entry of a sequence that is kept.
 const KEPT: usize = 65535;
 
-// How long the table of a rule set is for a reach, in bytes.
-pub fn table_size(set: RuleSet, reach: usize) -> TableSize
-    ensures { λ r. ⌜ (r ≡ tableSize set reach) × SizeMeaning set reach r ⌝ }
+// How long a table is for a reach, in bytes, once the set is judged.
+fn size_for(set: RuleSet, reach: usize) -> TableSize
+    requires { ⌜ WellFormed set ⌝ }
+    ensures { λ r. ⌜ r ≡ sizeWith set reach (firstRefusal (reachCauses reach)) ⌝ }
 {
-    if !is_valid(set) {
-        return TableSize {
-            outcome: 7,
-            length: 0,
-        };
-    }
     if reach < 1 {
         return TableSize {
             outcome: 5,
@@ -47,11 +43,25 @@ pub fn table_size(set: RuleSet, reach: usize) -> TableSize
     TableSize { outcome: 0, length }
 }
 
-// The first of the causes that all calls on a table share that holds: 7, 5 or 6; 0 if none does.
-fn table_refusal(set: RuleSet, reach: usize, size: usize) -> u8
-    ensures { λ r. ⌜ r ≡ buildOutcome set reach size ⌝ }
+// How long the table of a rule set is for a reach, in bytes.
+pub fn table_size(set: RuleSet, reach: usize) -> TableSize
+    ensures { λ r. ⌜ (r ≡ tableSize set reach) × SizeMeaning set reach r ⌝ }
 {
-    let due = table_size(set, reach);
+    if !is_valid(set) {
+        return TableSize {
+            outcome: 7,
+            length: 0,
+        };
+    }
+    size_for(set, reach)
+}
+
+// Once the set is judged, the first of the causes that all calls on a table share that holds: 5 or 6; 0 if neither does.
+fn shape_refusal(set: RuleSet, reach: usize, size: usize) -> u8
+    requires { ⌜ WellFormed set ⌝ }
+    ensures { λ r. ⌜ r ≡ firstRefusal (shapeCauses set reach size) ⌝ }
+{
+    let due = size_for(set, reach);
     if due.outcome != 0 {
         return due.outcome;
     }
@@ -76,17 +86,29 @@ fn write_entries(set: RuleSet, reach: usize, table: &mut [u8])
     }
 }
 
+// Builds a table once the set is judged.
+fn build_for(set: RuleSet, reach: usize, entries: &mut [u8]) -> u8
+    requires { ⌜ WellFormed set ⌝ }
+    ensures { λ r. ⌜ (let size = length (now (entries .entry)) in let outcome = firstRefusal (shapeCauses set reach size) in (r ≡ outcome) × (now (entries .exit) ≡ builtWith set reach size outcome)) ⌝ }
+{
+    let outcome = shape_refusal(set, reach, entries.len());
+    if outcome != 0 {
+        fill_from(entries, 0, 0);
+        return outcome;
+    }
+    write_entries(set, reach, entries);
+    0
+}
+
 // Builds the table of a rule set for a reach: each entry is the smallest witness of its sequence, or 65535.
 pub fn build_table(set: RuleSet, reach: usize, table: &mut [u8]) -> u8
     ensures { λ r. ⌜ (r ≡ buildOutcome set reach (length (now (table .entry)))) × (now (table .exit) ≡ builtBuffer set reach (length (now (table .entry)))) × BuildMeaning set reach (length (now (table .entry))) r (now (table .exit)) ⌝ }
 {
-    let outcome = table_refusal(set, reach, table.len());
-    if outcome != 0 {
+    if !is_valid(set) {
         fill_from(table, 0, 0);
-        return outcome;
+        return 7;
     }
-    write_entries(set, reach, table);
-    0
+    build_for(set, reach, table)
 }
 
 // An entry of a table: two bytes, low byte first.
@@ -134,11 +156,12 @@ fn is_accepted(set: RuleSet, reach: usize, table: &[u8]) -> bool
     true
 }
 
-// Checks a table, whoever made it: whether each of its marks is justified.
-pub fn check_table(set: RuleSet, reach: usize, table: &[u8]) -> u8
-    ensures { λ r. ⌜ (r ≡ checkOutcome set reach (now (table .entry))) × CheckMeaning set reach (now (table .entry)) r ⌝ }
+// Checks a table once the set is judged.
+fn check_for(set: RuleSet, reach: usize, table: &[u8]) -> u8
+    requires { ⌜ WellFormed set ⌝ }
+    ensures { λ r. ⌜ r ≡ firstRefusal (markCauses set reach (now (table .entry))) ⌝ }
 {
-    let outcome = table_refusal(set, reach, table.len());
+    let outcome = shape_refusal(set, reach, table.len());
     if outcome != 0 {
         return outcome;
     }
@@ -146,4 +169,14 @@ pub fn check_table(set: RuleSet, reach: usize, table: &[u8]) -> u8
         return 14;
     }
     0
+}
+
+// Checks a table, whoever made it: whether each of its marks is justified.
+pub fn check_table(set: RuleSet, reach: usize, table: &[u8]) -> u8
+    ensures { λ r. ⌜ (r ≡ checkOutcome set reach (now (table .entry))) × CheckMeaning set reach (now (table .entry)) r ⌝ }
+{
+    if !is_valid(set) {
+        return 7;
+    }
+    check_for(set, reach, table)
 }

@@ -75,7 +75,7 @@ module _ (set : RuleSet) (query : Query) where
               sym t ∙ own-refusal
 
           pub last-refusal : query .maxMoves ≤ query .planSize → checked ≡ firstRefusal (queryCauses set query)
-          unfolding checkOutcome checkCauses
+          unfolding checkOutcome checkCauses tableCauses
           last-refusal h =
               let t : firstRefusal (ownCauses set query) ≡ firstRefusal (unaccepted set query ∷ []) = rw (s, g, le-ltb 32 (query .maxMoves) m, le-ltb (query .planSize) (query .maxMoves) h) in
               past-shared r (unaccepted set query ∷ []) ∙ sym t ∙ own-refusal

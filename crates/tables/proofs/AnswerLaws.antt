@@ -3,7 +3,7 @@
 -- Assumes nothing.
 use mathlib.Core.Path.{_≡_, refl, sym, ap, _∙_}
 use mathlib.Core.Logic.{_↔_, _≢_, ⊎-elim}
-use mathlib.Core.Bool.{Bool, true, false, not}
+use mathlib.Core.Bool.{Bool, true, false, not, cond}
 use mathlib.Core.List.{List, [], _∷_, _++_}
 use Prim.Native.Nat.{ℕ, _*_, _<_}
 use native.Mathlib.Omega.{arith}
@@ -17,10 +17,11 @@ use Rattle.theory.proofs.TestLaws.{equal?, within-iff}
 use Rattle.model.specs.Refusals.{Cause, firstRefusal}
 use Rattle.model.specs.Validity.{valid, Valid}
 use Rattle.model.specs.declared.RuleSet.{RuleSet}
-use Rattle.model.proofs.RefusalLaws.{refusal-before}
+use Rattle.model.proofs.RefusalLaws.{refusal-append, refusal-before}
 use Rattle.model.proofs.ValidityLaws.{valid-iff}
+use Rattle.tables.specs.declared.TableSize.{TableSize}
 use Rattle.tables.specs.Table.{tableEntries, kept, entryAt, builtTable, accepted, Marked, Prunable, LeastWitness, Accepted}
-use Rattle.tables.specs.Answers.{tableCauses, buildOutcome, builtBuffer, checkCauses, checkOutcome, ReachLimits, Ready, BuildMeaning, CheckMeaning}
+use Rattle.tables.specs.Answers.{reachCauses, shapeCauses, markCauses, sizeWith, builtWith, tableCauses, buildOutcome, builtBuffer, checkCauses, checkOutcome, ReachLimits, Ready, BuildMeaning, CheckMeaning}
 use Rattle.tables.proofs.TableLaws.{accepted-iff, marked-iff, built-entry, built-length, built-least, built-marks-iff, built-accepted}
 
 module _ (set : RuleSet) (reach size : ℕ) where
@@ -137,6 +138,48 @@ module _ (set : RuleSet) (reach size : ℕ) where
     zeros = built-refused;
   }
 
+  -- once the set is judged, what is left decides
+  pub build-judged : valid set ≡ true → (buildOutcome set reach size ≡ firstRefusal (shapeCauses set reach size)) × (builtBuffer set reach size ≡ builtWith set reach size (firstRefusal (shapeCauses set reach size)))
+  unfolding builtBuffer buildOutcome tableCauses
+  build-judged v = (rw v, rw v)
+
+  pub shape-ready-iff : (firstRefusal (shapeCauses set reach size) ≡ 0) ↔ (ReachLimits reach × (size ≡ 2 * tableEntries set reach))
+  shape-ready-iff = go (within 1 3 reach) refl (eqb size (2 * tableEntries set reach)) refl
+    where
+      go : (r : Bool) → within 1 3 reach ≡ r → (s : Bool) → eqb size (2 * tableEntries set reach) ≡ s
+          → (firstRefusal ((5, not r) ∷ (6, not s) ∷ []) ≡ 0) ↔ (ReachLimits reach × (size ≡ 2 * tableEntries set reach))
+      go false k s _ = (λ e. absurd (omega arith), λ w. not-both (within-iff 1 3 reach .1 (w .0)) k)
+      go true k false n = (λ e. absurd (omega arith), λ w. not-both (eq-eqb size _ (w .1)) n)
+      go true k true n = (λ _. (within-iff 1 3 reach .0 k, eqb-true size _ n), λ _. refl)
+
+  -- a table without a length is refused for the same cause
+  pub shape-refused : firstRefusal (reachCauses reach) ≢ 0 → firstRefusal (shapeCauses set reach size) ≡ firstRefusal (reachCauses reach)
+  shape-refused h = refusal-before (reachCauses reach) ((6, not (eqb size (2 * tableEntries set reach))) ∷ []) h
+
+  -- else its length decides
+  module _ (told : TableSize) (is : told ≡ sizeWith set reach (firstRefusal (reachCauses reach))) (given : told .outcome ≡ 0) where
+    reached : firstRefusal (reachCauses reach) ≡ 0
+    reached = sym (ap (λ (t : TableSize). t .outcome) is) ∙ given
+
+    told-length : told .length ≡ 2 * tableEntries set reach
+    told-length = ap (λ (t : TableSize). t .length) is ∙ rw reached
+
+    past-reach : firstRefusal (shapeCauses set reach size) ≡ firstRefusal ((6, not (eqb size (2 * tableEntries set reach))) ∷ [])
+    past-reach = refusal-append (reachCauses reach) ((6, not (eqb size (2 * tableEntries set reach))) ∷ []) (λ e. omega arith, tt) reached
+
+    pub shape-misfit : size ≢ told .length → firstRefusal (shapeCauses set reach size) ≡ 6
+    shape-misfit h = past-reach ∙ rw (ne-eqb size (2 * tableEntries set reach) (λ e. h (e ∙ sym told-length)))
+
+    pub shape-fits : size ≡ told .length → firstRefusal (shapeCauses set reach size) ≡ 0
+    shape-fits h = past-reach ∙ rw (eq-eqb size (2 * tableEntries set reach) (h ∙ told-length))
+
+  -- what a build leaves
+  pub with-built : firstRefusal (shapeCauses set reach size) ≡ 0 → builtWith set reach size (firstRefusal (shapeCauses set reach size)) ≡ builtTable set reach
+  with-built e = ap (builtWith set reach size) e
+
+  pub with-refused : firstRefusal (shapeCauses set reach size) ≢ 0 → builtWith set reach size (firstRefusal (shapeCauses set reach size)) ≡ replicate size 0
+  with-refused h = rw (ne-eqb (firstRefusal (shapeCauses set reach size)) 0 h)
+
 -- ── The check ────────────────────────────────────────────────────────────────────────────────────
 
 module _ (set : RuleSet) (reach : ℕ) (table : List ℕ) where
@@ -144,13 +187,23 @@ module _ (set : RuleSet) (reach : ℕ) (table : List ℕ) where
   judgement = (14, not (accepted set reach table)) ∷ []
 
   check-outcome : checkOutcome set reach table ≡ outcome set reach (length table) judgement
-  unfolding checkOutcome checkCauses outcome judgement
+  unfolding checkOutcome checkCauses tableCauses outcome judgement
   check-outcome = refl
 
-  -- a refusal for a cause that the builder has
-  pub check-refused : buildOutcome set reach (length table) ≢ 0 → checkOutcome set reach table ≡ buildOutcome set reach (length table)
-  unfolding checkOutcome checkCauses buildOutcome
-  check-refused h = refusal-before (tableCauses set reach (length table)) ((14, not (accepted set reach table)) ∷ []) h
+  -- once the set is judged, the shape decides, and then the marks
+  pub marks-refused : firstRefusal (shapeCauses set reach (length table)) ≢ 0 → firstRefusal (markCauses set reach table) ≡ firstRefusal (shapeCauses set reach (length table))
+  marks-refused h = refusal-before (shapeCauses set reach (length table)) ((14, not (accepted set reach table)) ∷ []) h
+
+  pub marks-decide : firstRefusal (shapeCauses set reach (length table)) ≡ 0 → (b : Bool) → accepted set reach table ≡ b → firstRefusal (markCauses set reach table) ≡ cond b 0 14
+  marks-decide z b e = refusal-append (shapeCauses set reach (length table)) ((14, not (accepted set reach table)) ∷ []) (λ e. omega arith, (λ e. omega arith, tt)) z ∙ go b e
+    where
+      go : (b : Bool) → accepted set reach table ≡ b → firstRefusal ((14, not (accepted set reach table)) ∷ []) ≡ cond b 0 14
+      go true e = rw e
+      go false e = rw e
+
+  pub check-judged : valid set ≡ true → checkOutcome set reach table ≡ firstRefusal (markCauses set reach table)
+  unfolding checkOutcome checkCauses
+  check-judged v = rw v
 
   refused-iff : (firstRefusal judgement ≡ 14) ↔ (Accepted set reach table → ⊥)
   unfolding judgement

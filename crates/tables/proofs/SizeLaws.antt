@@ -8,16 +8,15 @@ use Prim.Native.Nat.{ℕ, _*_, _≤_}
 use native.Mathlib.Omega.{arith}
 use lib.Dec.{eqb}
 use Rattle.theory.specs.Lists.{within}
-use Rattle.theory.proofs.ListLaws.{not-both}
+use Rattle.theory.proofs.ListLaws.{not-both, never-true}
 use Rattle.theory.proofs.TestLaws.{within-iff}
 use Rattle.model.specs.Refusals.{firstRefusal}
 use Rattle.model.specs.Validity.{valid, Valid}
 use Rattle.model.specs.declared.RuleSet.{RuleSet}
-use Rattle.model.proofs.RefusalLaws.{refusal-before}
 use Rattle.model.proofs.ValidityLaws.{valid-iff}
 use Rattle.tables.specs.declared.TableSize.{TableSize}
 use Rattle.tables.specs.Table.{tableEntries}
-use Rattle.tables.specs.Answers.{sizeCauses, tableSize, tableCauses, buildOutcome, ReachLimits, SizeMeaning}
+use Rattle.tables.specs.Answers.{reachCauses, sizeWith, tableSize, buildOutcome, ReachLimits, SizeMeaning}
 use Rattle.tables.proofs.CountLaws.{count-bound}
 use Rattle.tables.proofs.AnswerLaws.{build-ready-iff}
 
@@ -37,6 +36,17 @@ module _ (set : RuleSet) (reach : ℕ) where
       go false e r _ = invalid (λ v. not-both (valid-iff set .1 v) e)
       go true e false k = unreached (valid-iff set .0 e) (λ h. not-both (within-iff 1 3 reach .1 h) k)
       go true e true k = given (valid-iff set .0 e) (within-iff 1 3 reach .0 k)
+
+  -- once the set is judged, the reach decides
+  pub size-judged : valid set ≡ true → tableSize set reach ≡ sizeWith set reach (firstRefusal (reachCauses reach))
+  unfolding tableSize
+  size-judged v = rw v
+
+  pub reach-refused : (ReachLimits reach → ⊥) → firstRefusal (reachCauses reach) ≡ 5
+  reach-refused n = rw (never-true (within 1 3 reach) (λ t. n (within-iff 1 3 reach .0 t)))
+
+  pub reach-passed : ReachLimits reach → firstRefusal (reachCauses reach) ≡ 0
+  reach-passed h = rw (within-iff 1 3 reach .1 h)
 
   -- at most 61,568 bytes
   bytes-bound : Valid set → ReachLimits reach → 2 * tableEntries set reach ≤ 61568
@@ -72,17 +82,9 @@ module _ (set : RuleSet) (reach : ℕ) where
         refused = λ h. absurd (h refl);
       }
 
-  -- an answer, by its outcome
+  -- a refusal
   pub size-refused : (n : ℕ) → n ≢ 0 → tableSize set reach .outcome ≡ n → tableSize set reach ≡ record { outcome = n; length = 0 }
   size-refused n h e = let z = size-meaning .refused (λ k. h (sym e ∙ k)) in λ i. record { outcome = e i; length = z i }
-
-  pub size-given : tableSize set reach .outcome ≡ 0 → tableSize set reach ≡ record { outcome = 0; length = 2 * tableEntries set reach }
-  size-given e = let z = size-meaning .bytes e in λ i. record { outcome = e i; length = z i }
-
-  -- where a table has no length, a build is refused for the same cause
-  pub size-refuses : (size : ℕ) → tableSize set reach .outcome ≢ 0 → buildOutcome set reach size ≡ tableSize set reach .outcome
-  unfolding tableSize buildOutcome tableCauses
-  size-refuses size h = refusal-before (sizeCauses set reach) ((6, not (eqb size (2 * tableEntries set reach))) ∷ []) h
 
   -- a build is not refused exactly if the table has the length that is told
   pub size-builds-iff : (size : ℕ) → (buildOutcome set reach size ≡ 0) ↔ ((tableSize set reach .outcome ≡ 0) × (size ≡ tableSize set reach .length))

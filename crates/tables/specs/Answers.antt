@@ -14,31 +14,50 @@ use Rattle.model.specs.declared.RuleSet.{RuleSet}
 use Rattle.tables.specs.declared.TableSize.{TableSize}
 use Rattle.tables.specs.Table.{tableEntries, kept, entryAt, builtTable, accepted, Marked, Prunable, LeastWitness, Accepted}
 
--- the causes for which a table has no length: the set is not valid; the reach is not 1 to 3
+-- ── Once the set is judged ───────────────────────────────────────────────────────────────────────
+
+-- the cause for which a table has no length: the reach is not 1 to 3
+abbrev pub reachCauses : ℕ → List Cause
+reachCauses reach = (5, not (within 1 3 reach)) ∷ []
+
+-- the causes that all calls on a table share, for a table of `size` bytes: this, and that the table's length is not 2 × S
+abbrev pub shapeCauses : RuleSet → ℕ → ℕ → List Cause
+shapeCauses set reach size = reachCauses reach ++ ((6, not (eqb size (2 * tableEntries set reach))) ∷ [])
+
+-- the check's causes: these, and last that the table is not accepted
+abbrev pub markCauses : RuleSet → ℕ → List ℕ → List Cause
+markCauses set reach table = shapeCauses set reach (length table) ++ ((14, not (accepted set reach table)) ∷ [])
+
+-- how long a table is, with an outcome: 2 × S bytes, 0 when refused
+abbrev pub sizeWith : RuleSet → ℕ → ℕ → TableSize
+sizeWith set reach outcome = record { outcome = outcome; length = cond (eqb outcome 0) (2 * tableEntries set reach) 0 }
+
+-- the table after the builder, with an outcome: the built table, or zeros when refused
+abbrev pub builtWith : RuleSet → ℕ → ℕ → ℕ → List ℕ
+builtWith set reach size outcome = cond (eqb outcome 0) (builtTable set reach) (replicate size 0)
+
+-- ── For any set: first, that it is not valid ─────────────────────────────────────────────────────
+
 abbrev pub sizeCauses : RuleSet → ℕ → List Cause
-sizeCauses set reach = (7, not (valid set)) ∷ (5, not (within 1 3 reach)) ∷ []
+sizeCauses set reach = (7, not (valid set)) ∷ reachCauses reach
 
--- how long a table is: the outcome, and 2 × S bytes, 0 when refused
+-- how long a table is
 unfoldable pub tableSize : RuleSet → ℕ → TableSize
-tableSize set reach =
-    let outcome = firstRefusal (sizeCauses set reach) in
-    record { outcome = outcome; length = cond (eqb outcome 0) (2 * tableEntries set reach) 0 }
+tableSize set reach = sizeWith set reach (firstRefusal (sizeCauses set reach))
 
--- the causes that all calls on a table share, for a table of `size` bytes: these, and that the table's length is not 2 × S
 unfoldable pub tableCauses : RuleSet → ℕ → ℕ → List Cause
-tableCauses set reach size = sizeCauses set reach ++ ((6, not (eqb size (2 * tableEntries set reach))) ∷ [])
+tableCauses set reach size = (7, not (valid set)) ∷ shapeCauses set reach size
 
 -- the builder's outcome
 unfoldable pub buildOutcome : RuleSet → ℕ → ℕ → ℕ
 buildOutcome set reach size = firstRefusal (tableCauses set reach size)
 
--- the table after the builder: the built table, or zeros when refused
+-- the table after the builder
 unfoldable pub builtBuffer : RuleSet → ℕ → ℕ → List ℕ
-builtBuffer set reach size = cond (eqb (buildOutcome set reach size) 0) (builtTable set reach) (replicate size 0)
+builtBuffer set reach size = builtWith set reach size (buildOutcome set reach size)
 
--- the check's causes: these, and last that the table is not accepted
 unfoldable pub checkCauses : RuleSet → ℕ → List ℕ → List Cause
-checkCauses set reach table = tableCauses set reach (length table) ++ ((14, not (accepted set reach table)) ∷ [])
+checkCauses set reach table = (7, not (valid set)) ∷ markCauses set reach table
 
 -- the check's outcome
 unfoldable pub checkOutcome : RuleSet → ℕ → List ℕ → ℕ

@@ -3,12 +3,16 @@
 use mathlib.Core.Path.{_≡_, sym, _∙_}
 use mathlib.Core.List.{List}
 use Prim.Native.Nat.{ℕ}
+use native.Mathlib.Omega.{arith}
 use lib.ListN.{length}
 use borrow.Author.Needs.{needs}
+use Rattle.theory.proofs.ListLaws.{not-both}
 use Rattle.model.specs.declared.RuleSet.{RuleSet}
 use Rattle.model.proofs.BufferLaws.{filled-whole}
+use Rattle.model.proofs.LoopLaws.{failed, passed}
+use Rattle.model.proofs.ValidityLaws.{valid-iff}
 use Rattle.tables.specs.Answers.{buildOutcome, builtBuffer, BuildMeaning}
-use Rattle.tables.proofs.AnswerLaws.{build-ready-iff, built-whole, built-refused, build-meaning}
+use Rattle.tables.proofs.AnswerLaws.{build-judged, built-refused, build-meaning}
 use Rattle.pruning.proofs.build_table.Statement.{statement}
 use Rattle.pruning.proofs.build_table.Tie as tie
 
@@ -17,8 +21,8 @@ answers : (set : RuleSet) (reach size r : ℕ) (table : List ℕ) → r ≡ buil
     → (r ≡ buildOutcome set reach size) × (table ≡ builtBuffer set reach size) × BuildMeaning set reach size r table
 answers set reach size r table e t = (e, t, rw (e, t) (build-meaning set reach size))
 
-table-refusal-requires : tie.Need-table-refusal-requires
-table-refusal-requires c κs = search needs
+is-valid-requires : tie.Need-is-valid-requires
+is-valid-requires c κs = search needs
 
 fill-from-requires : tie.Need-fill-from-requires
 fill-from-requires c κs = search needs
@@ -31,35 +35,33 @@ returns c =
     let zeroed = c .before .before in
     let branch = zeroed .before .before in
     let s = branch .before .before .before .args in
-    let e = branch .before .table-refusal .ensures in
-    let refused = built-refused (s .set) (s .reach) (length (s .table .now)) (λ z. branch .if1 .taken (e ∙ z)) in
-    answers (s .set) (s .reach) (length (s .table .now)) _ _ e (zeroed .fill-from .ensures ∙ filled-whole 0 (s .table .now) ∙ sym refused)
+    let invalid = failed (branch .before .is-valid .ensures) (branch .if1 .taken) in
+    let e = build-meaning (s .set) (s .reach) (length (s .table .now)) .notValid .1 (λ v. not-both (valid-iff (s .set) .1 v) invalid) in
+    let refused = built-refused (s .set) (s .reach) (length (s .table .now)) (λ z. omega (arith, e, z)) in
+    answers (s .set) (s .reach) (length (s .table .now)) _ _ (sym e) (zeroed .fill-from .ensures ∙ filled-whole 0 (s .table .now) ∙ sym refused)
 
-write-entries-requires : tie.Need-write-entries-requires
-write-entries-requires c κs =
-    let s = c .before .before .before .before .args in
-    let w = build-ready-iff (s .set) (s .reach) (length (s .table .now)) .0 (sym (c .before .before .table-refusal .ensures) ∙ c .before .if1 .left) in
-    (w .0 .formed, w .1 .0 .1, w .1 .1)
+build-for-requires : tie.Need-build-for-requires
+build-for-requires c κs = let s = c .before .before .before .before .args in valid-iff (s .set) .0 (passed (c .before .before .is-valid .ensures) (c .before .if1 .left)) .formed
 
 same-length-2 : tie.Need-same-length-2
 same-length-2 c = search needs
 
 returns-2 : tie.Need-returns-2
 returns-2 c =
-    let written = c .before .before in
-    let branch = written .before .before in
+    let built = c .before .before in
+    let branch = built .before .before in
     let s = branch .before .before .before .args in
-    let e = sym (branch .if1 .left) ∙ branch .before .table-refusal .ensures in
-    answers (s .set) (s .reach) (length (s .table .now)) _ _ e (written .write-entries .ensures ∙ sym (built-whole (s .set) (s .reach) (length (s .table .now)) (sym e)))
+    let w = build-judged (s .set) (s .reach) (length (s .table .now)) (passed (branch .before .is-valid .ensures) (branch .if1 .left)) in
+    answers (s .set) (s .reach) (length (s .table .now)) _ _ (built .build-for .ensures .0 ∙ sym (w .0)) (built .build-for .ensures .1 ∙ sym (w .1))
 
 pub build-table-spec : {M : Type 1} → statement M
 build-table-spec =
     tie.close
     (tie.spec
-    table-refusal-requires
+    is-valid-requires
     fill-from-requires
     same-length
     returns
-    write-entries-requires
+    build-for-requires
     same-length-2
     returns-2)

@@ -1,0 +1,39 @@
+-- `pruning::size_for` meets its contract: each way out has the number of its cause.
+-- Assumes nothing.
+use mathlib.Core.Path.{sym, ap, _∙_}
+use Prim.Native.Nat.{_*_}
+use native.Mathlib.Omega.{arith}
+use borrow.Author.Needs.{needs}
+use Rattle.tables.specs.Table.{tableEntries}
+use Rattle.tables.specs.Answers.{sizeWith}
+use Rattle.tables.proofs.SizeLaws.{reach-refused, reach-passed}
+use Rattle.pruning.proofs.size_for.Statement.{statement}
+use Rattle.pruning.proofs.size_for.Tie as tie
+
+returns : tie.Need-returns
+returns c = let s = c .before .args in sym (ap (sizeWith (s .set) (s .reach)) (reach-refused (s .set) (s .reach) (λ r. omega arith)))
+
+returns-2 : tie.Need-returns-2
+returns-2 c = let s = c .before .before .args in sym (ap (sizeWith (s .set) (s .reach)) (reach-refused (s .set) (s .reach) (λ r. omega arith)))
+
+sequence-count-requires : tie.Need-sequence-count-requires
+sequence-count-requires c κs = (c .before .before .pre .countLimits .1, c .if2 .left)
+
+mul-length : tie.Need-mul-length
+mul-length c = search needs
+
+returns-3 : tie.Need-returns-3
+unfolding tableEntries
+returns-3 c =
+    let s = c .before .before .before .args in
+    ap (λ n. record { outcome = 0; length = 2 * n }) (c .sequence-count .ensures .0) ∙ sym (ap (sizeWith (s .set) (s .reach)) (reach-passed (s .set) (s .reach) (omega arith, omega arith)))
+
+pub size-for-spec : {M : Type 1} → statement M
+size-for-spec =
+    tie.close
+    (tie.spec
+    returns
+    returns-2
+    sequence-count-requires
+    mul-length
+    returns-3)
