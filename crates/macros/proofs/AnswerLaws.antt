@@ -10,12 +10,13 @@ use borrow.Author.Tests.{ltb-true, ltb-false, lt-ltb, le-ltb}
 use Rattle.theory.specs.Lists.{any, within, isSome}
 use Rattle.theory.specs.Sequences.{Sequence, Numbered}
 use Rattle.theory.proofs.ListLaws.{not-both}
+use Rattle.model.specs.Refusals.{firstRefusal}
 use Rattle.model.specs.Rules.{sequenceCost, admitted}
-use Rattle.model.specs.Validity.{valid, Valid}
+use Rattle.model.specs.Validity.{valid, WellFormed, Valid}
 use Rattle.model.specs.declared.RuleSet.{RuleSet}
 use Rattle.model.proofs.ValidityLaws.{valid-iff}
 use Rattle.macros.specs.Composition.{Lines, composed}
-use Rattle.macros.specs.Answers.{macroCauses, blankMacro, macroAt, macroAnswer, Judged}
+use Rattle.macros.specs.Answers.{sequenceCauses, macroCauses, blankMacro, macroAt, macroWith, macroAnswer, Judged}
 use Rattle.macros.specs.declared.MacroAnswer.{MacroAnswer}
 use Rattle.macros.proofs.MoveLaws.{no-unknown-iff}
 use Rattle.macros.proofs.MeaningLaws.{admitted-composed}
@@ -27,30 +28,49 @@ module _ (set : RuleSet) (moves : Sequence) where
   unfolding macroAnswer macroCauses
   answer-invalid e = rw e
 
+  -- once the set is judged
+  abbrev pub worked : MacroAnswer
+  worked = macroWith set moves (firstRefusal (sequenceCauses set moves))
+
+  pub answer-judged : valid set ≡ true → macroAnswer set moves ≡ worked
+  unfolding macroAnswer macroCauses
+  answer-judged isValid = rw isValid
+
+  pub worked-long : 32 < length moves → worked ≡ record { outcome = 11; result = blankMacro }
+  worked-long h = rw (lt-ltb 32 (length moves) h)
+
+  module _ (few : length moves ≤ 32) where
+    pub worked-unknown : any (λ r. not (within 1 (set .count) r)) moves ≡ true → worked ≡ record { outcome = 13; result = blankMacro }
+    worked-unknown e = rw (le-ltb 32 (length moves) few, e)
+
+    module _ (formed : WellFormed set) (numbered : any (λ r. not (within 1 (set .count) r)) moves ≡ false) where
+      admits : (o : Option Lines) → composed set moves ≡ o → admitted set moves ≡ isSome o
+      admits o e = admitted-composed set formed moves (no-unknown-iff (set .count) moves .0 numbered) ∙ ap isSome e
+
+      pub worked-denied : composed set moves ≡ none → worked ≡ record { outcome = 17; result = blankMacro }
+      worked-denied e = rw (le-ltb 32 (length moves) few, numbered, admits none e)
+
+      pub worked-given : (m : Lines) → composed set moves ≡ some m → worked ≡ record { outcome = 0; result = macroAt (sequenceCost set moves) (some m) }
+      worked-given m e = rw (le-ltb 32 (length moves) few, numbered, admits (some m) e, e)
+
+  -- and of any set
   module _ (isValid : valid set ≡ true) where
-    pub answer-long : 32 < length moves → macroAnswer set moves ≡ record { outcome = 11; result = blankMacro }
-    unfolding macroAnswer macroCauses
-    answer-long h = rw (isValid, lt-ltb 32 (length moves) h)
+    answer-long : 32 < length moves → macroAnswer set moves ≡ record { outcome = 11; result = blankMacro }
+    answer-long h = answer-judged isValid ∙ worked-long h
 
     module _ (few : length moves ≤ 32) where
-      pub answer-unknown : any (λ r. not (within 1 (set .count) r)) moves ≡ true → macroAnswer set moves ≡ record { outcome = 13; result = blankMacro }
-      unfolding macroAnswer macroCauses
-      answer-unknown e = rw (isValid, le-ltb 32 (length moves) few, e)
+      answer-unknown : any (λ r. not (within 1 (set .count) r)) moves ≡ true → macroAnswer set moves ≡ record { outcome = 13; result = blankMacro }
+      answer-unknown e = answer-judged isValid ∙ worked-unknown few e
 
       module _ (numbered : any (λ r. not (within 1 (set .count) r)) moves ≡ false) where
         judged : Judged set moves
         judged = (valid-iff set .0 isValid, (few, no-unknown-iff (set .count) moves .0 numbered))
 
-        admits : (o : Option Lines) → composed set moves ≡ o → admitted set moves ≡ isSome o
-        admits o e = admitted-composed set (judged .0 .formed) moves (judged .1 .1) ∙ ap isSome e
-
-        pub answer-denied : composed set moves ≡ none → macroAnswer set moves ≡ record { outcome = 17; result = blankMacro }
-        unfolding macroAnswer macroCauses
-        answer-denied e = rw (isValid, le-ltb 32 (length moves) few, numbered, admits none e)
+        answer-denied : composed set moves ≡ none → macroAnswer set moves ≡ record { outcome = 17; result = blankMacro }
+        answer-denied e = answer-judged isValid ∙ worked-denied few (judged .0 .formed) numbered e
 
         pub answer-given : (m : Lines) → composed set moves ≡ some m → macroAnswer set moves ≡ record { outcome = 0; result = macroAt (sequenceCost set moves) (some m) }
-        unfolding macroAnswer macroCauses
-        answer-given m e = rw (isValid, le-ltb 32 (length moves) few, numbered, admits (some m) e, e)
+        answer-given m e = answer-judged isValid ∙ worked-given few (judged .0 .formed) numbered m e
 
   -- ── The five answers ───────────────────────────────────────────────────────────────────────────
 

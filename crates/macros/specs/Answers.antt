@@ -18,10 +18,13 @@ use Rattle.macros.specs.Composition.{Lines, composed}
 use Rattle.macros.specs.declared.Macro.{Macro}
 use Rattle.macros.specs.declared.MacroAnswer.{MacroAnswer}
 
--- the causes of the macro call: the set is not valid; more than 32 moves; a move that is no rule's number; no state admits the sequence
+-- the causes of the macro call once the set is judged: more than 32 moves; a move that is no rule's number; no state admits the sequence
+abbrev pub sequenceCauses : RuleSet → List ℕ → List Cause
+sequenceCauses set moves = (11, ltb 32 (length moves)) ∷ (13, any (λ r. not (within 1 (set .count) r)) moves) ∷ (17, not (admitted set moves)) ∷ []
+
+-- for any set: first, that it is not valid
 unfoldable pub macroCauses : RuleSet → List ℕ → List Cause
-macroCauses set moves =
-    (7, not (valid set)) ∷ (11, ltb 32 (length moves)) ∷ (13, any (λ r. not (within 1 (set .count) r)) moves) ∷ (17, not (admitted set moves)) ∷ []
+macroCauses set moves = (7, not (valid set)) ∷ sequenceCauses set moves
 
 -- a refused macro
 abbrev pub blankMacro : Macro
@@ -32,11 +35,13 @@ abbrev pub macroAt : ℕ → Option Lines → Macro
 macroAt cost none = blankMacro
 macroAt cost (some m) = record { condition = m .condition; effect = m .effect; cost = cost }
 
--- the answer: the sequence's vectors at its summed cost, or zeros
+-- the answer with an outcome: the sequence's vectors at its summed cost, or zeros when refused
+abbrev pub macroWith : RuleSet → List ℕ → ℕ → MacroAnswer
+macroWith set moves outcome = record { outcome = outcome; result = cond (eqb outcome 0) (macroAt (sequenceCost set moves) (composed set moves)) blankMacro }
+
+-- the answer
 unfoldable pub macroAnswer : RuleSet → List ℕ → MacroAnswer
-macroAnswer set moves =
-    let outcome = firstRefusal (macroCauses set moves) in
-    record { outcome = outcome; result = cond (eqb outcome 0) (macroAt (sequenceCost set moves) (composed set moves)) blankMacro }
+macroAnswer set moves = macroWith set moves (firstRefusal (macroCauses set moves))
 
 -- ── What a macro means, over all states of the sizes ─────────────────────────────────────────────
 

@@ -12,8 +12,10 @@ ghost use Prim.Native.Nat.{_≤_, min, max};
 ghost use lib.ListN.{length};
 ghost use Rattle.theory.specs.Lists.{any, within};
 ghost use Rattle.theory.specs.Sequences.{Numbered};
+ghost use Rattle.model.specs.Refusals.{firstRefusal};
 ghost use Rattle.model.specs.Rules.{ruleAt, sequenceCost};
-ghost use Rattle.macros.specs.Answers.{blankMacro, macroAnswer, Meaning};
+ghost use Rattle.model.specs.Validity.{WellFormed};
+ghost use Rattle.macros.specs.Answers.{sequenceCauses, blankMacro, macroWith, macroAnswer, Meaning};
 
 // A macro (source document 003: a macro-operator): two vectors in the form of a rule's lines, and the summed cost.
 pub struct Macro {
@@ -104,13 +106,11 @@ fn cost_of(set: RuleSet, moves: &[u8]) -> u16
     total
 }
 
-// The macro of a sequence of rule numbers.
-pub fn macro_of(set: RuleSet, moves: &[u8]) -> MacroAnswer
-    ensures { λ r. ⌜ (r ≡ macroAnswer set (now (moves .entry))) × Meaning set (now (moves .entry)) r ⌝ }
+// The macro of a sequence once the set is judged.
+fn macro_for(set: RuleSet, moves: &[u8]) -> MacroAnswer
+    requires { ⌜ WellFormed set ⌝ }
+    ensures { λ r. ⌜ r ≡ macroWith set (now (moves .entry)) (firstRefusal (sequenceCauses set (now (moves .entry)))) ⌝ }
 {
-    if !is_valid(set) {
-        return refused(7);
-    }
     if 32 < moves.len() {
         return refused(11);
     }
@@ -132,4 +132,14 @@ pub fn macro_of(set: RuleSet, moves: &[u8]) -> MacroAnswer
             cost,
         },
     }
+}
+
+// The macro of a sequence of rule numbers.
+pub fn macro_of(set: RuleSet, moves: &[u8]) -> MacroAnswer
+    ensures { λ r. ⌜ (r ≡ macroAnswer set (now (moves .entry))) × Meaning set (now (moves .entry)) r ⌝ }
+{
+    if !is_valid(set) {
+        return refused(7);
+    }
+    macro_for(set, moves)
 }

@@ -1,0 +1,104 @@
+-- `macros::macro_for` meets its contract: each way out is the answer to its cause.
+-- Assumes nothing.
+use mathlib.Core.Path.{_≡_, sym, _∙_}
+use mathlib.Core.Bool.{false, not}
+use Prim.Native.Nat.{ℕ}
+use borrow.Author.Tests.{not-true, not-false}
+use borrow.Author.Needs.{needs}
+use Rattle.theory.specs.Lists.{any, within}
+use Rattle.theory.specs.Sequences.{Sequence, Numbered}
+use Rattle.model.specs.Validity.{WellFormed}
+use Rattle.model.specs.declared.RuleSet.{RuleSet}
+use Rattle.macros.specs.Answers.{blankMacro}
+use Rattle.macros.specs.declared.MacroAnswer.{MacroAnswer}
+use Rattle.macros.proofs.MoveLaws.{no-unknown-iff, numbered-wider}
+use Rattle.macros.proofs.CompositionLoopLaws.{lines-denied, lines-admitted}
+use Rattle.macros.proofs.AnswerLaws.{worked, worked-long, worked-unknown, worked-denied, worked-given}
+use Rattle.macros.proofs.macro_for.Statement.{statement}
+use Rattle.macros.proofs.macro_for.Tie as tie
+
+-- ── What the calls tell ──────────────────────────────────────────────────────────────────────────
+
+module _ (set : RuleSet) (moves : Sequence) where
+  refuses : (n : ℕ) (r : MacroAnswer) → (r .outcome ≡ n) × (r .result ≡ blankMacro) → worked set moves ≡ record { outcome = n; result = blankMacro } → r ≡ worked set moves
+  refuses n r w e = (λ i. record { outcome = w .0 i; result = w .1 i }) ∙ sym e
+
+  -- a well-formed set has at most 31 rules
+  numbered-31 : WellFormed set → any (λ r. not (within 1 (set .count) r)) moves ≡ false → Numbered 31 moves
+  numbered-31 formed numbered = numbered-wider (set .count) 31 moves (formed .countLimits .1) (no-unknown-iff (set .count) moves .0 numbered)
+
+-- ── The proof ────────────────────────────────────────────────────────────────────────────────────
+
+refused-requires : tie.Need-refused-requires
+refused-requires c κs = search needs
+
+returns : tie.Need-returns
+returns c =
+    let s = c .before .before .before .args in
+    refuses (s .set) (s .moves .now) 11 (c .refused .result) (c .refused .ensures) (worked-long (s .set) (s .moves .now) (c .before .if1 .taken))
+
+has-unknown-move-requires : tie.Need-has-unknown-move-requires
+has-unknown-move-requires c κs = search needs
+
+refused-requires-2 : tie.Need-refused-requires-2
+refused-requires-2 c κs = search needs
+
+returns-2 : tie.Need-returns-2
+returns-2 c =
+    let few = c .before .before .before in
+    let s = few .before .before .args in
+    refuses (s .set) (s .moves .now) 13 (c .refused2 .result) (c .refused2 .ensures)
+    (worked-unknown (s .set) (s .moves .now) (few .if1 .left) (sym (c .before .before .has-unknown-move .ensures) ∙ c .before .if2 .taken))
+
+composed-requires : tie.Need-composed-requires
+composed-requires c κs =
+    let start = c .before .before .before .before in
+    numbered-31 (start .args .set) (start .args .moves .now) (start .pre) (sym (c .before .has-unknown-move .ensures) ∙ c .if2 .left)
+
+refused-requires-3 : tie.Need-refused-requires-3
+refused-requires-3 c κs = search needs
+
+returns-3 : tie.Need-returns-3
+returns-3 c =
+    let made = c .before .before .before in
+    let numbered = made .before in
+    let few = numbered .before .before in
+    let start = few .before .before in
+    let s = start .args in
+    refuses (s .set) (s .moves .now) 17 (c .refused3 .result) (c .refused3 .ensures)
+    (worked-denied (s .set) (s .moves .now) (few .if1 .left) (start .pre) (sym (numbered .before .has-unknown-move .ensures) ∙ numbered .if2 .left)
+    (lines-denied _ _ (made .composed .ensures) (not-true _ (c .before .if3 .taken))))
+
+cost-of-requires : tie.Need-cost-of-requires
+cost-of-requires c κs =
+    let numbered = c .before .before .before .before .before in
+    let few = numbered .before .before in
+    let start = few .before .before in
+    (few .if1 .left, numbered-31 (start .args .set) (start .args .moves .now) (start .pre) (sym (numbered .before .has-unknown-move .ensures) ∙ numbered .if2 .left))
+
+returns-4 : tie.Need-returns-4
+returns-4 c =
+    let admitted = c .before .before .before in
+    let made = admitted .before .before in
+    let numbered = made .before in
+    let few = numbered .before .before in
+    let start = few .before .before in
+    let s = start .args in
+    sym (rw (c .cost-of .ensures)
+    (worked-given (s .set) (s .moves .now) (few .if1 .left) (start .pre) (sym (numbered .before .has-unknown-move .ensures) ∙ numbered .if2 .left) _
+    (lines-admitted _ _ (made .composed .ensures) (not-false _ (admitted .if3 .left)))))
+
+pub macro-for-spec : {M : Type 1} → statement M
+macro-for-spec =
+    tie.close
+    (tie.spec
+    refused-requires
+    returns
+    has-unknown-move-requires
+    refused-requires-2
+    returns-2
+    composed-requires
+    refused-requires-3
+    returns-3
+    cost-of-requires
+    returns-4)
