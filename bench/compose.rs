@@ -1,4 +1,4 @@
-// The work of the program `macro_bench` in plain Rust, unproved: a million two-rule macros of the rule file on standard input. It reads files that have no fault.
+// The work of the program `bench_macros` in plain Rust, unproved: a million two-rule macros of the rule file on standard input. It reads files that have no fault.
 use std::io::Read;
 
 type Entries = [u8; 16];

@@ -1,4 +1,4 @@
-// The work of the program `table_bench` in plain Rust, unproved: the macros of all sequences of at most three rules, each compared with every earlier one in turn until it is redundant
+// The work of the program `bench_tables` in plain Rust, unproved: the macros of all sequences of at most three rules, each compared with every earlier one in turn until it is redundant
 // with one. Written from document 01 and source document 003; it shares nothing with the library. It reads files that have no fault.
 use std::io::Read;
 

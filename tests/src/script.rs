@@ -1,4 +1,4 @@
-//! The cases of crates/*_cases, as calls of the C entries. A case that changes a rule set other than by its file cannot be put to a C entry, and is left out.
+//! The cases of crates/cases_*, as calls of the C entries. A case that changes a rule set other than by its file cannot be put to a C entry, and is left out.
 
 use crate::calls::{Call, Query};
 use crate::library::answer;

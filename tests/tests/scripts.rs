@@ -1,4 +1,4 @@
-//! The cases of crates/*_cases, document 01's and the source documents' examples among them, put to the C entries.
+//! The cases of crates/cases_*, document 01's and the source documents' examples among them, put to the C entries.
 
 use planner_tests::calls::Call;
 use planner_tests::compare::{compare, compare_in, Tally};
@@ -26,7 +26,7 @@ fn compared(calls: &[Call]) -> u64 {
 #[test]
 fn rule_files() {
     let mut tally = Tally::default();
-    for call in script::file_calls(include_str!("../../crates/file_cases/stdin")) {
+    for call in script::file_calls(include_str!("../../crates/cases_files/stdin")) {
         compare(&call, &mut tally);
     }
     assert!(tally.cases() > 10_000, "only {} calls", tally.cases());
@@ -34,18 +34,18 @@ fn rule_files() {
 
 #[test]
 fn macros() {
-    let compared = all(include_str!("../../crates/macro_cases/stdin"));
+    let compared = all(include_str!("../../crates/cases_macros/stdin"));
     assert!(compared > 600, "only {compared} calls");
 }
 
 #[test]
 fn tables() {
-    let compared = all(include_str!("../../crates/table_cases/stdin"));
+    let compared = all(include_str!("../../crates/cases_tables/stdin"));
     assert!(compared > 600, "only {compared} calls");
 }
 
 #[test]
 fn queries() {
-    let compared = all(include_str!("../../crates/search_cases/stdin"));
+    let compared = all(include_str!("../../crates/cases_search/stdin"));
     assert!(compared > 700, "only {compared} calls");
 }

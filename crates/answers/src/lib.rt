@@ -1,8 +1,6 @@
-// What a caller does with a search's answer: it takes the plan from its buffer, and keeps a tally.
-pub mod tally;
-
+// What a caller does with a search's answer: it takes the plan from its buffer.
 ghost use mathlib.Core.Path.{_≡_};
-ghost use Rattle.queries.specs.PlanPart.{planPart};
+ghost use Rattle.search_spec.specs.PlanPart.{planPart};
 
 // The plan handed back (document 01: the second call): the front part of the caller's own plan buffer, from its start; an empty one where the length is above the buffer's.
 pub fn plan_part(plan: &[u8], length: usize) -> &[u8]

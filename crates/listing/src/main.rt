@@ -6,7 +6,7 @@ ghost use mathlib.Core.Path.{_≡_};
 ghost use mathlib.Core.List.{List};
 ghost use lib.ListN.{length, take};
 ghost use Rattle.io.specs.Counts.{Counts};
-ghost use Rattle.report.specs.Listing.{listing};
+ghost use Rattle.report_spec.specs.Listing.{listing};
 
 // Puts the listing into a buffer that every listing fits: its length. Where the text is the front of an input, of 4,293 bytes or more, this is the listing of the whole input: what stands
 // beyond plays no part.

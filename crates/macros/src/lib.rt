@@ -1,41 +1,25 @@
-// Macros of sequences, and redundancy decided on a sequence's vectors.
-pub mod composition;
+// Macros of sequences.
 pub mod redundancy;
 
-use composition::composed;
-use model::Rule;
-use model::RuleSet;
-use model::is_valid;
+use composition::empty;
+use composition::extended;
+use macros_spec::Macro;
+use macros_spec::MacroAnswer;
+use macros_spec::Vectors;
+use model_spec::Rule;
+use model_spec::RuleSet;
+use validity::is_valid;
 ghost use mathlib.Core.Path.{_≡_};
 ghost use mathlib.Core.Bool.{not};
-ghost use Prim.Native.Nat.{_≤_, min, max};
+ghost use Prim.Native.Nat.{_≤_};
 ghost use lib.ListN.{length};
-ghost use Rattle.theory.specs.Lists.{any, within};
-ghost use Rattle.theory.specs.Sequences.{Numbered};
-ghost use Rattle.model.specs.Refusals.{firstRefusal};
-ghost use Rattle.model.specs.Rules.{ruleAt, sequenceCost};
-ghost use Rattle.model.specs.Validity.{WellFormed};
-ghost use Rattle.macros.specs.Answers.{sequenceCauses, blankMacro, macroWith, macroAnswer, Meaning};
-
-// A macro (source document 003: a macro-operator): two vectors in the form of a rule's lines, and the summed cost.
-pub struct Macro {
-    pub condition: [u8; 16],
-    pub effect: [u8; 16],
-    pub cost: u16,
-}
-
-// What the macro call gives: the outcome, 0, 7, 11, 13 or 17, and the macro, which is all zeros when refused.
-pub struct MacroAnswer {
-    pub outcome: u8,
-    pub result: Macro,
-}
-
-// The vectors of a sequence, without its cost; zeros where no state admits it.
-pub struct Vectors {
-    pub admitted: bool,
-    pub condition: [u8; 16],
-    pub effect: [u8; 16],
-}
+ghost use Rattle.theory_spec.specs.Lists.{any, within};
+ghost use Rattle.theory_spec.specs.Sequences.{Numbered};
+ghost use Rattle.model_spec.specs.Refusals.{firstRefusal};
+ghost use Rattle.model_spec.specs.Rules.{ruleAt, sequenceCost};
+ghost use Rattle.model_spec.specs.Validity.{WellFormed};
+ghost use Rattle.macros_spec.specs.Composition.{composed, asVectors};
+ghost use Rattle.macros_spec.specs.Answers.{sequenceCauses, blankMacro, macroWith, macroAnswer, Meaning};
 
 // A refusal, with a macro of zeros.
 fn refused(outcome: u8) -> MacroAnswer
@@ -49,18 +33,6 @@ fn refused(outcome: u8) -> MacroAnswer
             cost: 0,
         },
     }
-}
-
-fn larger(x: u8, y: u8) -> u8
-    ensures { λ r. ⌜ r ≡ max x y ⌝ }
-{
-    if x < y { y } else { x }
-}
-
-fn smaller(x: u8, y: u8) -> u8
-    ensures { λ r. ⌜ r ≡ min x y ⌝ }
-{
-    if x < y { x } else { y }
 }
 
 // Whether some move is no number from 1 to `count`.
@@ -142,4 +114,19 @@ pub fn macro_of(set: RuleSet, moves: &[u8]) -> MacroAnswer
         return refused(7);
     }
     macro_for(set, moves)
+}
+
+// The vectors of a sequence.
+pub(crate) fn composed(set: RuleSet, moves: &[u8]) -> Vectors
+    requires { ⌜ Numbered 31 (now moves) ⌝ }
+    ensures { λ r. ⌜ r ≡ asVectors (composed set (now (moves .entry))) ⌝ }
+{
+    let mut sequence = empty(set);
+    let mut i: usize = 0;
+    while i < moves.len() {
+        let rule = rule_at(set, moves[i]);
+        sequence = extended(sequence, rule);
+        i += 1;
+    }
+    sequence
 }

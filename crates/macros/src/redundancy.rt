@@ -1,18 +1,18 @@
 // Redundancy of a sequence with another, decided on the first one's vectors.
-use crate::Vectors;
 use crate::has_unknown_move;
 use crate::rule_at;
-use crate::smaller;
-use model::RuleSet;
-use model::after;
-use model::runs;
-use model::same_entries;
+use composition::smaller;
+use macros_spec::Vectors;
+use model_spec::RuleSet;
+use states::after;
+use states::runs;
+use states::same_entries;
 ghost use mathlib.Core.Path.{_≡_};
 ghost use lib.Dec.{leb};
-ghost use Rattle.theory.specs.Sequences.{Numbered};
-ghost use Rattle.model.specs.Rules.{runIn, sequenceCost};
-ghost use Rattle.macros.specs.Composition.{linesOf};
-ghost use Rattle.macros.specs.Redundancy.{endsIn, redundantByLines, TellsRedundancy};
+ghost use Rattle.theory_spec.specs.Sequences.{Numbered};
+ghost use Rattle.model_spec.specs.Rules.{runIn, sequenceCost};
+ghost use Rattle.macros_spec.specs.Composition.{linesOf};
+ghost use Rattle.macros_spec.specs.Redundancy.{endsIn, redundantByLines, TellsRedundancy};
 
 // Whether a sequence costs at most this.
 fn costs_at_most(set: RuleSet, moves: &[u8], most: u16) -> bool

@@ -1,13 +1,13 @@
 // The C entries of reader and writer, and the rewriting on its own.
 use crate::packing::pack_length;
-use model::buffers::fill_from;
-use rules::Written;
+use buffers::fill_from;
+use files_spec::Written;
 ghost use mathlib.Core.Path.{_≡_};
 ghost use Prim.Native.Nat.{_/_, _%_};
 ghost use lib.ListN.{length};
-ghost use Rattle.rules.specs.Reading.{reading};
-ghost use Rattle.rules.specs.Meaning.{JudgeMeaning};
-ghost use Rattle.planner.specs.Rewriting.{rewritten, rewrittenBuffer, packedRewritten, RewriteMeaning};
+ghost use Rattle.files_spec.specs.Reading.{reading};
+ghost use Rattle.files_spec.specs.Meaning.{JudgeMeaning};
+ghost use Rattle.planner_spec.specs.Rewriting.{rewritten, rewrittenBuffer, packedRewritten, RewriteMeaning};
 
 // Judges a rule file for C: 1 to 4, or 0.
 #[no_mangle]

@@ -1,11 +1,11 @@
 // The C entry of the macro call. It takes the rule text in place of a set; 1 to 4 of the text come before all else.
-use macros::Macro;
+use buffers::fill_from;
 use macros::macro_of;
-use model::buffers::fill_from;
+use macros_spec::Macro;
 use reader::read;
 ghost use mathlib.Core.Path.{_≡_};
 ghost use lib.ListN.{length, getD};
-ghost use Rattle.planner.specs.TextMacro.{macroBytes, macroBuffer, textMacro, TextMacroMeaning};
+ghost use Rattle.planner_spec.specs.TextMacro.{macroBytes, macroBuffer, textMacro, TextMacroMeaning};
 
 // Byte i of a macro: condition, effect, and the cost, low byte first; 0 beyond them.
 fn macro_byte(m: Macro, i: usize) -> u8

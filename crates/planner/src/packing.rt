@@ -1,7 +1,7 @@
 // An outcome and a length as one number, for the entries that tell both.
 ghost use mathlib.Core.Path.{_≡_};
 ghost use Prim.Native.Nat.{_<_};
-ghost use Rattle.planner.specs.PackedLength.{packedLength};
+ghost use Rattle.planner_spec.specs.PackedLength.{packedLength};
 
 // The outcome in the low byte, the length above it.
 pub(crate) fn pack_length(outcome: u8, length: usize) -> u64

@@ -1,12 +1,12 @@
 // The search's C entry: rule text in place of a set, and the answer as one number.
-use model::buffers::fill_from;
-use queries::Answer;
+use buffers::fill_from;
+use search_spec::Answer;
 ghost use mathlib.Core.Path.{_≡_};
 ghost use lib.ListN.{length};
-ghost use Rattle.queries.specs.Query.{asked};
-ghost use Rattle.queries.specs.Searched.{Searched};
-ghost use Rattle.planner.specs.Packed.{packed, unpacked, searchedText, packedSearch};
-ghost use Rattle.planner.specs.TextSearch.{TextSearchMeaning};
+ghost use Rattle.search_spec.specs.Query.{asked};
+ghost use Rattle.search_spec.specs.Searched.{Searched};
+ghost use Rattle.planner_spec.specs.Packed.{packed, unpacked, searchedText, packedSearch};
+ghost use Rattle.planner_spec.specs.TextSearch.{TextSearchMeaning};
 
 // The byte of the plan buffer where there is no move.
 const NO_MOVE: u8 = 255;

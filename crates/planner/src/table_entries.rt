@@ -1,6 +1,6 @@
 // The C entries on tables. Each takes the rule text in place of a set; 1 to 4 of the text come before all else.
 use crate::packing::pack_length;
-use model::buffers::fill_from;
+use buffers::fill_from;
 use pruning::build_table;
 use pruning::check_table;
 use pruning::table_size;
@@ -8,7 +8,7 @@ use reader::read;
 ghost use mathlib.Core.Path.{_≡_};
 ghost use Prim.Native.Nat.{_/_, _%_};
 ghost use lib.ListN.{length};
-ghost use Rattle.planner.specs.TextTables.{packedTableSize, textBuildOutcome, textBuiltBuffer, textCheckOutcome, TextSizeMeaning, TextBuildMeaning, TextCheckMeaning};
+ghost use Rattle.planner_spec.specs.TextTables.{packedTableSize, textBuildOutcome, textBuiltBuffer, textCheckOutcome, TextSizeMeaning, TextBuildMeaning, TextCheckMeaning};
 
 // How long a table is: the outcome in the low byte, the length in bytes above it.
 #[no_mangle]

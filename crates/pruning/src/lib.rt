@@ -2,22 +2,22 @@
 mod sequences;
 mod witnesses;
 
+use buffers::fill_from;
 use macros::redundancy::is_redundant;
-use model::RuleSet;
-use model::buffers::fill_from;
-use model::is_valid;
+use model_spec::RuleSet;
 use sequences::profile_at;
 use sequences::sequence_at;
 use sequences::sequence_count;
-use tables::TableSize;
+use tables_spec::TableSize;
+use validity::is_valid;
 use witnesses::entry_for;
 ghost use mathlib.Core.Path.{_≡_};
 ghost use Prim.Native.Nat.{_+_, _*_, _≤_, _<_};
 ghost use lib.ListN.{length};
-ghost use Rattle.model.specs.Refusals.{firstRefusal};
-ghost use Rattle.model.specs.Validity.{WellFormed};
-ghost use Rattle.tables.specs.Table.{tableEntries, entryAt, builtTable, entryJustified, accepted};
-ghost use Rattle.tables.specs.Answers.{reachCauses, shapeCauses, markCauses, sizeWith, builtWith, tableSize, SizeMeaning, buildOutcome, builtBuffer, BuildMeaning, checkOutcome, CheckMeaning};
+ghost use Rattle.model_spec.specs.Refusals.{firstRefusal};
+ghost use Rattle.model_spec.specs.Validity.{WellFormed};
+ghost use Rattle.tables_spec.specs.Table.{tableEntries, entryAt, builtTable, entryJustified, accepted};
+ghost use Rattle.tables_spec.specs.Answers.{reachCauses, shapeCauses, markCauses, sizeWith, builtWith, tableSize, SizeMeaning, buildOutcome, builtBuffer, BuildMeaning, checkOutcome, CheckMeaning};
 
 // The entry of a sequence that is kept.
 const KEPT: usize = 65535;

@@ -3,25 +3,25 @@
 use crate::KEPT;
 use crate::sequences::index_behind;
 use crate::sequences::profile_at;
-use macros::Vectors;
-use model::Rule;
-use model::RuleSet;
-use model::after;
-use model::runs;
-use model::same_entries;
-use model::value;
+use macros_spec::Vectors;
+use model_spec::Rule;
+use model_spec::RuleSet;
+use states::after;
+use states::runs;
+use states::same_entries;
+use states::value;
 ghost use mathlib.Core.Path.{_≡_};
 ghost use mathlib.Core.Bool.{_&&_};
 ghost use mathlib.Core.Option.{some};
 ghost use Prim.Native.Nat.{_-_, _≤_, _<_};
 ghost use lib.Dec.{leb};
-ghost use Rattle.theory.specs.Lists.{same};
-ghost use Rattle.theory.specs.Sequences.{level, sequences};
-ghost use Rattle.model.specs.States.{applicable, successor};
-ghost use Rattle.model.specs.Validity.{WellFormed};
-ghost use Rattle.macros.specs.Composition.{linesOf};
-ghost use Rattle.tables.specs.Table.{sequenceCount, tableEntries, builtEntry};
-ghost use Rattle.pruning.specs.Witnesses.{firstBehind, serves};
+ghost use Rattle.theory_spec.specs.Lists.{same};
+ghost use Rattle.theory_spec.specs.Sequences.{level, sequences};
+ghost use Rattle.model_spec.specs.States.{applicable, successor};
+ghost use Rattle.model_spec.specs.Validity.{WellFormed};
+ghost use Rattle.macros_spec.specs.Composition.{linesOf};
+ghost use Rattle.tables_spec.specs.Table.{sequenceCount, tableEntries, builtEntry};
+ghost use Rattle.pruning_laws.specs.Witnesses.{firstBehind, serves};
 
 // Whether an effect leads from these entries to the target. It ends at the first place that differs.
 fn leads_to(effect: &[u8; 16], entries: &[u8; 16], target: &[u8; 16]) -> bool

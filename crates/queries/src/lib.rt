@@ -1,25 +1,85 @@
-// Queries: what a search is asked and answers, the plan handed back and the tally. Types, definitions and laws; the code is in `search` and `answers`.
+// What is judged of a query before any sequence is visited.
+use model_spec::RuleSet;
+use pruning::check_table;
+use search_spec::ANY_VALUE;
+ghost use mathlib.Core.Path.{_≡_};
+ghost use Prim.Native.Nat.{_≤_};
+ghost use Rattle.model_spec.specs.Refusals.{firstRefusal};
+ghost use Rattle.search_spec.specs.Query.{asked, startFits, goalFits};
+ghost use Rattle.search_spec.specs.Searched.{queryCauses};
 
-// What a search gives beside the plan buffer.
-pub struct Answer {
-    // 0 for a plan found, else a number of document 01
-    pub outcome: u8,
-    // the plan's cost, and how many moves it has; 0 where there is none
-    pub cost: u16,
-    pub length: u8,
-    // the number of visited sequences (document 01: walked), at most the step limit; 0 when refused
-    pub steps: u32,
+// Whether a start has one byte for each position, each below its size.
+fn start_fits(set: RuleSet, start: &[u8]) -> bool
+    requires { ⌜ set .positions ≤ 16 ⌝ }
+    ensures { λ r. ⌜ r ≡ startFits set (now (start .entry)) ⌝ }
+{
+    let positions = set.positions as usize;
+    if start.len() != positions {
+        return false;
+    }
+    let sizes = set.sizes;
+    let mut i: usize = 0;
+    while i < positions {
+        if sizes[i] <= start[i] {
+            return false;
+        }
+        i += 1;
+    }
+    true
 }
 
-// A caller's tally of its queries by outcome, and the sum of their steps. Each count stays at its top value.
-pub struct Tally {
-    // outcome 0: a plan found
-    pub solved: u64,
-    // outcome 15: no plan within the bounds
-    pub unsolvable: u64,
-    // outcome 16: the step limit exceeded (document 01: spent)
-    pub limited: u64,
-    // every other outcome
-    pub refused: u64,
-    pub steps: u64,
+// Whether a goal has one byte for each position, each below its size or 255.
+fn goal_fits(set: RuleSet, goal: &[u8]) -> bool
+    requires { ⌜ set .positions ≤ 16 ⌝ }
+    ensures { λ r. ⌜ r ≡ goalFits set (now (goal .entry)) ⌝ }
+{
+    let positions = set.positions as usize;
+    if goal.len() != positions {
+        return false;
+    }
+    let sizes = set.sizes;
+    let mut i: usize = 0;
+    while i < positions {
+        if goal[i] != ANY_VALUE {
+            if sizes[i] <= goal[i] {
+                return false;
+            }
+        }
+        i += 1;
+    }
+    true
+}
+
+// The first cause for which a query is refused: 7, 5, 6, 9, 10, 11, 12 or 14; 0 if none holds. The table is checked first, and its 14 waits for 9 to 12.
+// The cost bound and the step limit refuse nothing here, and stand as 0 in the contract.
+pub fn query_refusal(
+    set: RuleSet,
+    reach: usize,
+    table: &[u8],
+    start: &[u8],
+    goal: &[u8],
+    max_moves: usize,
+    plan_size: usize,
+) -> u8
+    ensures { λ r. ⌜ r ≡ firstRefusal (queryCauses set (asked reach (now (table .entry)) (now (start .entry)) (now (goal .entry)) «max_moves» 0 0 «plan_size»)) ⌝ }
+{
+    let checked = check_table(set, reach, table);
+    if checked != 0 {
+        if checked != 14 {
+            return checked;
+        }
+    }
+    if !start_fits(set, start) {
+        return 9;
+    }
+    if !goal_fits(set, goal) {
+        return 10;
+    }
+    if 32 < max_moves {
+        return 11;
+    }
+    if plan_size < max_moves {
+        return 12;
+    }
+    checked
 }

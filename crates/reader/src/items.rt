@@ -1,11 +1,11 @@
 // The items of a rule file, each read at a place of the text: words, numbers and entries.
-use crate::Found;
-use crate::FoundNumber;
+use reader_laws::Found;
+use reader_laws::FoundNumber;
 ghost use mathlib.Core.Path.{_≡_};
 ghost use Prim.Native.Nat.{_≤_, _<_};
 ghost use lib.ListN.{length, drop};
-ghost use Rattle.rules.specs.Reading.{literal, isDigit, digits, isNumber, decimal, number, numberWithin, variable, constant, entry};
-ghost use Rattle.reader.specs.Found.{found};
+ghost use Rattle.files_spec.specs.Reading.{literal, isDigit, digits, isNumber, decimal, number, numberWithin, variable, constant, entry};
+ghost use Rattle.reader_laws.specs.Found.{found};
 
 // A refusal in the place of a number.
 fn no_number(outcome: u8) -> FoundNumber

@@ -2,58 +2,15 @@
 mod items;
 mod lines;
 
-use model::Rule;
-use model::RuleSet;
-use rules::Reading;
+use files_spec::Reading;
+use model_spec::Rule;
+use model_spec::RuleSet;
+use reader_laws::FoundSet;
 ghost use mathlib.Core.Path.{_≡_};
-ghost use Rattle.model.specs.Rules.{blankRule, emptySet};
-ghost use Rattle.rules.specs.Reading.{fileLines, reading};
-ghost use Rattle.rules.specs.Meaning.{ReadMeaning};
-ghost use Rattle.reader.specs.Found.{found};
-
-// What the functions of the reader find at a place of the text: a refusal's number, or with outcome 0 a value and the place after it.
-
-// A number as it is written, before its limit is judged.
-struct FoundNumber {
-    outcome: u8,
-    value: u16,
-    next: usize,
-}
-
-// A number or an entry within its limit. After a key the value is 0.
-struct Found {
-    outcome: u8,
-    value: u8,
-    next: usize,
-}
-
-// The items of a line, 0 in the places beyond them.
-struct FoundLine {
-    outcome: u8,
-    entries: [u8; 16],
-    next: usize,
-}
-
-// The lines of one rule.
-struct FoundRule {
-    outcome: u8,
-    rule: Rule,
-    next: usize,
-}
-
-// The lines of all rules, zero throughout beyond them.
-struct FoundRules {
-    outcome: u8,
-    rules: [Rule; 31],
-    next: usize,
-}
-
-// All lines of the file.
-struct FoundSet {
-    outcome: u8,
-    set: RuleSet,
-    next: usize,
-}
+ghost use Rattle.model_spec.specs.Rules.{blankRule, emptySet};
+ghost use Rattle.files_spec.specs.Reading.{fileLines, reading};
+ghost use Rattle.files_spec.specs.Meaning.{ReadMeaning};
+ghost use Rattle.reader_laws.specs.Found.{found};
 
 // An unused rule.
 fn blank_rule() -> Rule
@@ -91,7 +48,7 @@ fn outcome_of(text: &[u8], file: FoundSet) -> u8
         return fault;
     }
     // the lines have no fault, so only duplicates can make the set invalid
-    let valid = model::is_valid(found);
+    let valid = validity::is_valid(found);
     if next < text.len() {
         return 1;
     }
@@ -105,7 +62,7 @@ fn outcome_of(text: &[u8], file: FoundSet) -> u8
 pub fn read(text: &[u8]) -> Reading
     ensures { λ r. ⌜ (r ≡ reading (now (text .entry))) × ReadMeaning (now (text .entry)) r ⌝ }
 {
-    let file = lines::file_lines(text);
+    let file = crate::lines::file_lines(text);
     let set = file.set;
     let empty = empty_set();
     let outcome = outcome_of(text, file);

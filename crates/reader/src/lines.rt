@@ -1,27 +1,27 @@
 // The lines of a rule file, each read at a place of the text: lists, rules and the whole file.
-use crate::Found;
-use crate::FoundLine;
-use crate::FoundRule;
-use crate::FoundRules;
-use crate::FoundSet;
 use crate::blank_rule;
 use crate::empty_set;
 use crate::items::entry;
 use crate::items::no_item;
 use crate::items::number_within;
 use crate::items::word;
-use model::Rule;
-use model::RuleSet;
-use model::condition_placed;
-use model::effect_placed;
-use rules::ending;
+use model_spec::Rule;
+use model_spec::RuleSet;
+use placement::condition_placed;
+use placement::effect_placed;
+use reader_laws::Found;
+use reader_laws::FoundLine;
+use reader_laws::FoundRule;
+use reader_laws::FoundRules;
+use reader_laws::FoundSet;
+use separators::ending;
 ghost use mathlib.Core.Path.{_≡_};
 ghost use mathlib.Core.List.{List};
 ghost use Prim.Native.Nat.{ℕ, _≤_, _<_};
 ghost use lib.ListN.{length, take, drop};
-ghost use Rattle.rules.specs.Text.{lineFeed};
-ghost use Rattle.rules.specs.Reading.{andRead, literal, numberWithin, sizeItem, conditionItem, effectItem, listLine, ruleLines, ruleList, fileLines};
-ghost use Rattle.reader.specs.Found.{found};
+ghost use Rattle.files_spec.specs.Text.{lineFeed};
+ghost use Rattle.files_spec.specs.Reading.{andRead, literal, numberWithin, sizeItem, conditionItem, effectItem, listLine, ruleLines, ruleList, fileLines};
+ghost use Rattle.reader_laws.specs.Found.{found};
 
 // A refusal in the place of a line.
 fn no_line(outcome: u8) -> FoundLine

@@ -2,10 +2,10 @@
 mod marks;
 mod text;
 
+use buffers::fill_from;
 use marks::count_marks;
 use marks::put_marks;
-use model::RuleSet;
-use model::buffers::fill_from;
+use model_spec::RuleSet;
 use pruning::build_table;
 use text::put_number_line;
 ghost use mathlib.Core.Path.{_≡_};
@@ -14,13 +14,13 @@ ghost use mathlib.Core.List.{[], _∷_};
 ghost use Prim.Native.Nat.{_*_, _≤_};
 ghost use lib.Dec.{eqb};
 ghost use lib.ListN.{length};
-ghost use Rattle.model.specs.Validity.{Valid};
-ghost use Rattle.rules.specs.Text.{numeral, line};
-ghost use Rattle.writer.specs.Overlay.{Laid};
-ghost use Rattle.tables.specs.Table.{sequenceCount, tableEntries};
-ghost use Rattle.report.specs.Listing.{listingOf};
-ghost use Rattle.report.specs.Marks.{MarksEarlier, tableText};
-ghost use Rattle.report.specs.Report.{reportLength, reported, ReportMeaning};
+ghost use Rattle.model_spec.specs.Validity.{Valid};
+ghost use Rattle.files_spec.specs.Text.{numeral, line};
+ghost use Rattle.output_laws.specs.Overlay.{Laid};
+ghost use Rattle.tables_spec.specs.Table.{sequenceCount, tableEntries};
+ghost use Rattle.report_spec.specs.Listing.{listingOf};
+ghost use Rattle.report_spec.specs.Marks.{MarksEarlier, tableText};
+ghost use Rattle.report_spec.specs.Report.{reportLength, reported, ReportMeaning};
 
 // The listing of a table for so many rules, from the start of the text on.
 fn put_table(text: &mut [u8], count: u8, table: &[u8]) -> usize

@@ -4,9 +4,9 @@ ghost use mathlib.Core.Path.{_≡_};
 ghost use mathlib.Core.Logic.{_≢_};
 ghost use Prim.Native.Nat.{_+_, _*_, _≤_, _<_};
 ghost use lib.ListN.{length};
-ghost use Rattle.writer.specs.Overlay.{Laid};
-ghost use Rattle.tables.specs.Table.{sequenceCount, kept, entryAt};
-ghost use Rattle.report.specs.Marks.{tableMarks, MarksEarlier, entryLines, marksText};
+ghost use Rattle.output_laws.specs.Overlay.{Laid};
+ghost use Rattle.tables_spec.specs.Table.{sequenceCount, kept, entryAt};
+ghost use Rattle.report_spec.specs.Marks.{tableMarks, MarksEarlier, entryLines, marksText};
 
 // The entry of a sequence that is kept.
 const KEPT: usize = 65535;

@@ -3,10 +3,10 @@
 ghost use mathlib.Core.List.{[], _∷_, _++_};
 ghost use Prim.Native.Nat.{_+_, _≤_, _<_};
 ghost use lib.ListN.{length};
-ghost use Rattle.rules.specs.Text.{lineFeed, digit, numeral};
-ghost use Rattle.writer.specs.Overlay.{Laid};
-ghost use Rattle.tables.specs.Table.{sequenceCount};
-ghost use Rattle.report.specs.Marks.{sequenceText};
+ghost use Rattle.files_spec.specs.Text.{lineFeed, digit, numeral};
+ghost use Rattle.output_laws.specs.Overlay.{Laid};
+ghost use Rattle.tables_spec.specs.Table.{sequenceCount};
+ghost use Rattle.report_spec.specs.Marks.{sequenceText};
 
 // One byte.
 fn put(text: &mut [u8], at: usize, byte: u8) -> usize

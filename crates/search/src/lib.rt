@@ -1,80 +1,31 @@
 // The search (document 01: the walk): the cheapest plan of a query, or why there is none.
 mod lookup;
-mod query;
 mod visits;
 
+use buffers::fill_from;
 use lookup::fill_lookup;
-use model::RuleSet;
-use model::buffers::fill_from;
-use queries::Answer;
-use query::query_refusal;
-use query::start_state;
-use visits::Best;
-use visits::Limits;
-use visits::Progress;
+use model_spec::RuleSet;
+use queries::query_refusal;
+use rule_arrays::conditions_of;
+use rule_arrays::costs_of;
+use rule_arrays::effects_of;
+use search_laws::Best;
+use search_laws::Limits;
+use search_laws::Progress;
+use search_spec::Answer;
+use search_spec::NO_MOVE;
 use visits::visit_from;
 ghost use mathlib.Core.Path.{_≡_};
-ghost use mathlib.Core.List.{map, _++_};
+ghost use mathlib.Core.List.{_++_};
 ghost use Prim.Native.Nat.{_≤_};
 ghost use lib.ListN.{length, take, drop};
-ghost use Rattle.queries.specs.Query.{asked};
-ghost use Rattle.queries.specs.Searched.{Searched, searched, NotRefused, SearchMeaning};
-ghost use Rattle.search.specs.Visits.{Explored};
-
-// The byte of the plan buffer where there is no move.
-const NO_MOVE: u8 = 255;
+ghost use Rattle.theory_spec.specs.Lists.{padded};
+ghost use Rattle.search_spec.specs.Query.{asked};
+ghost use Rattle.search_spec.specs.Searched.{Searched, searched, NotRefused, SearchMeaning};
+ghost use Rattle.search_laws.specs.Visits.{Explored};
 
 // The floor while no sequence beyond the limit is met: no cost is larger.
 const NO_FLOOR: u16 = 65535;
-
-// The byte of a goal that asks for nothing.
-const ANY_VALUE: u8 = 255;
-
-// The conditions of all rules, to be lent.
-fn conditions_of(set: RuleSet) -> [[u8; 16]; 31]
-    ensures { λ r. ⌜ r ≡ map (λ rule. rule .condition) (set .rules) ⌝ }
-{
-    let zeros = [0u8; 16];
-    let mut conditions = [zeros; 31];
-    let mut k: usize = 0;
-    while k < 31 {
-        let rule = set.rules[k];
-        let condition = rule.condition;
-        conditions[k] = condition;
-        k += 1;
-    }
-    conditions
-}
-
-// The effects of all rules.
-fn effects_of(set: RuleSet) -> [[u8; 16]; 31]
-    ensures { λ r. ⌜ r ≡ map (λ rule. rule .effect) (set .rules) ⌝ }
-{
-    let zeros = [0u8; 16];
-    let mut effects = [zeros; 31];
-    let mut k: usize = 0;
-    while k < 31 {
-        let rule = set.rules[k];
-        let effect = rule.effect;
-        effects[k] = effect;
-        k += 1;
-    }
-    effects
-}
-
-// The costs of all rules.
-fn costs_of(set: RuleSet) -> [u8; 31]
-    ensures { λ r. ⌜ r ≡ map (λ rule. rule .cost) (set .rules) ⌝ }
-{
-    let mut costs = [0u8; 31];
-    let mut k: usize = 0;
-    while k < 31 {
-        let rule = set.rules[k];
-        costs[k] = rule.cost;
-        k += 1;
-    }
-    costs
-}
 
 // Visits the sequences of a query that is not refused, from the empty one on, up to the step limit. The plan buffer plays no part here: the move bound stands for its length.
 fn explored(
@@ -204,4 +155,18 @@ pub fn search(
         length: best.length,
         steps: progress.steps,
     }
+}
+
+// The state of a start: 0 beyond the positions.
+pub(crate) fn start_state(start: &[u8]) -> [u8; 16]
+    requires { ⌜ length (now start) ≤ 16 ⌝ }
+    ensures { λ r. ⌜ r ≡ padded 16 0 (now (start .entry)) ⌝ }
+{
+    let mut state = [0u8; 16];
+    let mut i: usize = 0;
+    while i < start.len() {
+        state[i] = start[i];
+        i += 1;
+    }
+    state
 }

@@ -4,11 +4,11 @@ ghost use Prim.Native.Nat.{_+_, _*_, _-_, _≤_, _<_};
 ghost use mathlib.Core.Bool.{not};
 ghost use lib.Dec.{eqb};
 ghost use lib.ListN.{length, getD, take, drop};
-ghost use Rattle.theory.specs.Sequences.{Numbered};
-ghost use Rattle.theory.specs.Indices.{indexOf, sequenceOf};
-ghost use Rattle.theory.specs.Recursion.{last};
-ghost use Rattle.tables.specs.Table.{sequenceCount, kept, entryAt};
-ghost use Rattle.search.specs.Lookup.{LooksUp};
+ghost use Rattle.theory_spec.specs.Sequences.{Numbered};
+ghost use Rattle.theory_spec.specs.Indices.{indexOf, sequenceOf};
+ghost use Rattle.theory_spec.specs.Recursion.{last};
+ghost use Rattle.tables_spec.specs.Table.{sequenceCount, kept, entryAt};
+ghost use Rattle.search_laws.specs.Lookup.{LooksUp};
 
 // Whether an entry of the table is a mark: one of its two bytes is not 255.
 fn is_mark(table: &[u8], index: usize) -> bool

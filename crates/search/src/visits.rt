@@ -1,44 +1,22 @@
 // The visits (document 01: the walk): a function that calls itself for each extension of a sequence. Arrays are lent; limits, steps and best plan pass through by value.
-use crate::ANY_VALUE;
 use crate::lookup::first_place;
-use model::value;
+use search_laws::Best;
+use search_laws::Limits;
+use search_laws::Progress;
+use search_spec::ANY_VALUE;
+use states::value;
 ghost use mathlib.Core.Path.{_≡_};
 ghost use mathlib.Core.Bool.{_&&_};
-ghost use Prim.Native.Nat.{_≤_, _<_, min};
+ghost use Prim.Native.Nat.{_≤_, min};
 ghost use lib.Dec.{leb, eqb};
 ghost use lib.ListN.{length, take, replicate};
-ghost use Rattle.theory.specs.Lists.{padded};
-ghost use Rattle.model.specs.States.{applicable, successor};
-ghost use Rattle.queries.specs.Query.{meetsGoal};
-ghost use Rattle.queries.specs.Searched.{noMove};
-ghost use Rattle.search.specs.Visits.{ZerosFrom, Lent, Reached, replaces, noted, visitsFrom};
+ghost use Rattle.theory_spec.specs.Lists.{padded};
+ghost use Rattle.model_spec.specs.States.{applicable, successor};
+ghost use Rattle.search_spec.specs.Query.{meetsGoal};
+ghost use Rattle.search_spec.specs.Searched.{noMove};
+ghost use Rattle.search_laws.specs.Visits.{ZerosFrom, Lent, Reached, replaces, noted, visitsFrom};
 
-// The best plan met so far. Its moves are rule numbers, with 255 in every other byte.
-pub(crate) struct Best {
-    pub found: bool,
-    pub cost: u16,
-    pub length: u8,
-    pub moves: [u8; 32],
-}
-
-// How far the search has come: the sequences visited, at most the step limit; whether there are more than the limit; the best plan of those visited; the least cost of those met beyond the limit.
-pub(crate) struct Progress {
-    pub steps: u32,
-    pub exceeded: bool,
-    pub best: Best,
-    pub floor: u16,
-}
-
-// What stays the same all through a search: how many positions and rules the set has, the table's reach, the cost bound and the step limit.
-pub(crate) struct Limits {
-    pub positions: usize,
-    pub count: usize,
-    pub reach: usize,
-    pub max_cost: u16,
-    pub step_limit: u32,
-}
-
-// Whether a rule with this condition runs in the state: as `model::runs`, but to the positions only. Beyond them both are zero, and zero meets zero.
+// Whether a rule with this condition runs in the state: as `states::runs`, but to the positions only. Beyond them both are zero, and zero meets zero.
 fn runs_within(positions: usize, condition: &[u8; 16], state: &[u8; 16]) -> bool
     requires { ⌜ (positions ≤ 16) × ZerosFrom positions (now condition) × ZerosFrom positions (now state) ⌝ }
     ensures { λ r. ⌜ r ≡ applicable (now (condition .entry)) (now (state .entry)) ⌝ }

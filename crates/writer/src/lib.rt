@@ -1,26 +1,26 @@
 // The writer of rule files.
 mod output;
 
-use model::RuleSet;
-use model::buffers::fill_from;
-use rules::Written;
+use buffers::fill_from;
+use files_spec::Written;
+use model_spec::RuleSet;
 ghost use mathlib.Core.Path.{_≡_};
 ghost use lib.ListN.{length};
-ghost use Rattle.rules.specs.Meaning.{WriteMeaning};
-ghost use Rattle.rules.specs.Writing.{written, writtenBuffer};
+ghost use Rattle.files_spec.specs.Meaning.{WriteMeaning};
+ghost use Rattle.files_spec.specs.Writing.{written, writtenBuffer};
 
 // Writes the file of a set into the text, and zeros after it; zeros alone when refused.
 pub fn write(set: RuleSet, text: &mut [u8]) -> Written
     ensures { λ r. ⌜ (r ≡ written set (length (now (text .entry)))) × (now (text .exit) ≡ writtenBuffer set (length (now (text .entry)))) × WriteMeaning set (length (now (text .entry))) r (now (text .exit)) ⌝ }
 {
-    if !model::is_valid(set) {
+    if !validity::is_valid(set) {
         fill_from(text, 0, 0);
         return Written {
             outcome: 7,
             length: 0,
         };
     }
-    let end = output::put_file(text, set);
+    let end = crate::output::put_file(text, set);
     if text.len() < end {
         fill_from(text, 0, 0);
         return Written {

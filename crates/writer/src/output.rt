@@ -1,15 +1,15 @@
 // The parts of a rule file, each laid over a buffer from a place on, as far as it reaches; the place after it is given back.
 // A file has at most 4,292 bytes. That each part ends at 65,535 at most is asked only so that no place overflows.
-use model::Rule;
-use model::RuleSet;
-use rules::ending;
+use model_spec::Rule;
+use model_spec::RuleSet;
+use separators::ending;
 ghost use mathlib.Core.List.{[], _∷_, _++_};
 ghost use Prim.Native.Nat.{_+_, _≤_};
 ghost use lib.ListN.{length, take};
-ghost use Rattle.theory.specs.Lists.{flat};
-ghost use Rattle.rules.specs.Text.{numeral, lineFeed};
-ghost use Rattle.rules.specs.File.{entryText, ruleText, render};
-ghost use Rattle.writer.specs.Overlay.{Laid, listText};
+ghost use Rattle.theory_spec.specs.Lists.{flat};
+ghost use Rattle.files_spec.specs.Text.{numeral, lineFeed};
+ghost use Rattle.files_spec.specs.File.{entryText, ruleText, render};
+ghost use Rattle.output_laws.specs.Overlay.{Laid, listText};
 
 // One byte.
 fn put(text: &mut [u8], at: usize, byte: u8) -> usize

@@ -6,7 +6,7 @@ use lib.ListN.{length}
 use lib.Seq.{length-take-le}
 use borrow.Author.Needs.{needs}
 use borrow.Author.Tests.{le-leb, lt-leb}
-use Rattle.queries.specs.PlanPart.{planPart}
+use Rattle.search_spec.specs.PlanPart.{planPart}
 use Rattle.answers.proofs.plan_part.Statement.{statement}
 use Rattle.answers.proofs.plan_part.Tie as tie
 

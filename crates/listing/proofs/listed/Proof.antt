@@ -7,11 +7,11 @@ use native.Mathlib.Omega.{arith}
 use borrow.Author.Needs.{needs}
 use lib.ListN.{length, take, replicate, length-append}
 use lib.Seq.{length-take-le, take-append-seam}
-use Rattle.report.specs.Listing.{listing}
-use Rattle.report.specs.Report.{reportLength, reported}
-use Rattle.report.proofs.LengthLaws.{listing-bound}
-use Rattle.report.proofs.ReportLaws.{report-fits}
-use Rattle.report.proofs.CutLaws.{listing-cut}
+use Rattle.report_spec.specs.Listing.{listing}
+use Rattle.report_spec.specs.Report.{reportLength, reported}
+use Rattle.report_spec.proofs.LengthLaws.{listing-bound}
+use Rattle.report_spec.proofs.ReportLaws.{report-fits}
+use Rattle.report_spec.proofs.CutLaws.{listing-cut}
 use Rattle.listing.proofs.listed.Statement.{statement}
 use Rattle.listing.proofs.listed.Tie as tie
 

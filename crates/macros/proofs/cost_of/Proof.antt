@@ -5,9 +5,9 @@ use Prim.Native.Nat.{_+_, _*_, _≤_, _-_}
 use native.Mathlib.Omega.{arith}
 use lib.ListN.{length, drop}
 use borrow.Author.Needs.{needs}
-use Rattle.model.specs.Rules.{sequenceCost}
-use Rattle.macros.proofs.MoveLaws.{numbered-at}
-use Rattle.macros.proofs.MoveLoopLaws.{cost-go, cost-end}
+use Rattle.model_spec.specs.Rules.{sequenceCost}
+use Rattle.macros_spec.proofs.MoveLaws.{numbered-at}
+use Rattle.macros_spec.proofs.MoveLoopLaws.{cost-go, cost-end}
 use Rattle.macros.proofs.cost_of.Statement.{statement}
 use Rattle.macros.proofs.cost_of.Tie as tie
 

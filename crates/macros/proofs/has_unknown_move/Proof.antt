@@ -6,8 +6,8 @@ use Prim.Native.Nat.{_≤_, _-_}
 use native.Mathlib.Omega.{arith}
 use lib.ListN.{length, drop}
 use borrow.Author.Needs.{needs}
-use Rattle.theory.specs.Lists.{any, within}
-use Rattle.macros.proofs.MoveLoopLaws.{unknown-go, unknown-found, unknown-none}
+use Rattle.theory_spec.specs.Lists.{any, within}
+use Rattle.macros_spec.proofs.MoveLoopLaws.{unknown-go, unknown-found, unknown-none}
 use Rattle.macros.proofs.has_unknown_move.Statement.{statement}
 use Rattle.macros.proofs.has_unknown_move.Tie as tie
 

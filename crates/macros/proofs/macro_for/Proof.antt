@@ -5,15 +5,15 @@ use mathlib.Core.Bool.{false, not}
 use Prim.Native.Nat.{ℕ}
 use borrow.Author.Tests.{not-true, not-false}
 use borrow.Author.Needs.{needs}
-use Rattle.theory.specs.Lists.{any, within}
-use Rattle.theory.specs.Sequences.{Sequence, Numbered}
-use Rattle.model.specs.Validity.{WellFormed}
-use Rattle.model.specs.declared.RuleSet.{RuleSet}
-use Rattle.macros.specs.Answers.{blankMacro}
-use Rattle.macros.specs.declared.MacroAnswer.{MacroAnswer}
-use Rattle.macros.proofs.MoveLaws.{no-unknown-iff, numbered-wider}
-use Rattle.macros.proofs.CompositionLoopLaws.{lines-denied, lines-admitted}
-use Rattle.macros.proofs.AnswerLaws.{worked, worked-long, worked-unknown, worked-denied, worked-given}
+use Rattle.theory_spec.specs.Lists.{any, within}
+use Rattle.theory_spec.specs.Sequences.{Sequence, Numbered}
+use Rattle.model_spec.specs.Validity.{WellFormed}
+use Rattle.model_spec.specs.declared.RuleSet.{RuleSet}
+use Rattle.macros_spec.specs.Answers.{blankMacro}
+use Rattle.macros_spec.specs.declared.MacroAnswer.{MacroAnswer}
+use Rattle.macros_spec.proofs.MoveLaws.{no-unknown-iff, numbered-wider}
+use Rattle.macros_spec.proofs.CompositionLoopLaws.{lines-denied, lines-admitted}
+use Rattle.macros_spec.proofs.AnswerLaws.{worked, worked-long, worked-unknown, worked-denied, worked-given}
 use Rattle.macros.proofs.macro_for.Statement.{statement}
 use Rattle.macros.proofs.macro_for.Tie as tie
 

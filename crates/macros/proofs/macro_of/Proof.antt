@@ -2,14 +2,14 @@
 -- Assumes nothing.
 use mathlib.Core.Path.{_≡_, sym, subst, _∙_}
 use borrow.Author.Needs.{needs}
-use Rattle.theory.specs.Sequences.{Sequence}
-use Rattle.model.specs.declared.RuleSet.{RuleSet}
-use Rattle.model.proofs.LoopLaws.{failed, passed}
-use Rattle.model.proofs.ValidityLaws.{valid-iff}
-use Rattle.macros.specs.Answers.{macroAnswer, Meaning}
-use Rattle.macros.specs.declared.MacroAnswer.{MacroAnswer}
-use Rattle.macros.proofs.AnswerLaws.{answer-invalid, answer-judged}
-use Rattle.macros.proofs.MacroLaws.{answer-meaning}
+use Rattle.theory_spec.specs.Sequences.{Sequence}
+use Rattle.model_spec.specs.declared.RuleSet.{RuleSet}
+use Rattle.model_spec.proofs.LoopLaws.{failed, passed}
+use Rattle.model_spec.proofs.ValidityLaws.{valid-iff}
+use Rattle.macros_spec.specs.Answers.{macroAnswer, Meaning}
+use Rattle.macros_spec.specs.declared.MacroAnswer.{MacroAnswer}
+use Rattle.macros_spec.proofs.AnswerLaws.{answer-invalid, answer-judged}
+use Rattle.macros_spec.proofs.MacroLaws.{answer-meaning}
 use Rattle.macros.proofs.macro_of.Statement.{statement}
 use Rattle.macros.proofs.macro_of.Tie as tie
 

@@ -2,7 +2,7 @@
 -- Assumes nothing.
 use mathlib.Core.Path.{refl}
 use borrow.Author.Needs.{needs}
-use Rattle.model.specs.Rules.{ruleAt}
+use Rattle.model_spec.specs.Rules.{ruleAt}
 use Rattle.macros.proofs.rule_at.Statement.{statement}
 use Rattle.macros.proofs.rule_at.Tie as tie
 

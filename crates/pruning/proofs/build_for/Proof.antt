@@ -3,8 +3,8 @@
 use mathlib.Core.Path.{sym, _∙_}
 use lib.ListN.{length}
 use borrow.Author.Needs.{needs}
-use Rattle.model.proofs.BufferLaws.{filled-whole}
-use Rattle.tables.proofs.AnswerLaws.{shape-ready-iff, with-built, with-refused}
+use Rattle.model_spec.proofs.BufferLaws.{filled-whole}
+use Rattle.tables_spec.proofs.AnswerLaws.{shape-ready-iff, with-built, with-refused}
 use Rattle.pruning.proofs.build_for.Statement.{statement}
 use Rattle.pruning.proofs.build_for.Tie as tie
 

@@ -6,13 +6,13 @@ use Prim.Native.Nat.{ℕ}
 use native.Mathlib.Omega.{arith}
 use lib.ListN.{length}
 use borrow.Author.Needs.{needs}
-use Rattle.theory.proofs.ListLaws.{not-both}
-use Rattle.model.specs.declared.RuleSet.{RuleSet}
-use Rattle.model.proofs.BufferLaws.{filled-whole}
-use Rattle.model.proofs.LoopLaws.{failed, passed}
-use Rattle.model.proofs.ValidityLaws.{valid-iff}
-use Rattle.tables.specs.Answers.{buildOutcome, builtBuffer, BuildMeaning}
-use Rattle.tables.proofs.AnswerLaws.{build-judged, built-refused, build-meaning}
+use Rattle.theory_spec.proofs.ListLaws.{not-both}
+use Rattle.model_spec.specs.declared.RuleSet.{RuleSet}
+use Rattle.model_spec.proofs.BufferLaws.{filled-whole}
+use Rattle.model_spec.proofs.LoopLaws.{failed, passed}
+use Rattle.model_spec.proofs.ValidityLaws.{valid-iff}
+use Rattle.tables_spec.specs.Answers.{buildOutcome, builtBuffer, BuildMeaning}
+use Rattle.tables_spec.proofs.AnswerLaws.{build-judged, built-refused, build-meaning}
 use Rattle.pruning.proofs.build_table.Statement.{statement}
 use Rattle.pruning.proofs.build_table.Tie as tie
 

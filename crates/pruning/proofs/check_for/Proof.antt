@@ -2,8 +2,8 @@
 -- Assumes nothing.
 use mathlib.Core.Path.{sym, _∙_}
 use lib.ListN.{length}
-use Rattle.model.proofs.LoopLaws.{failed, passed}
-use Rattle.tables.proofs.AnswerLaws.{shape-ready-iff, marks-refused, marks-decide}
+use Rattle.model_spec.proofs.LoopLaws.{failed, passed}
+use Rattle.tables_spec.proofs.AnswerLaws.{shape-ready-iff, marks-refused, marks-decide}
 use Rattle.pruning.proofs.check_for.Statement.{statement}
 use Rattle.pruning.proofs.check_for.Tie as tie
 

@@ -4,12 +4,12 @@ use mathlib.Core.Path.{_≡_, sym, subst, _∙_}
 use mathlib.Core.List.{List}
 use Prim.Native.Nat.{ℕ}
 use borrow.Author.Needs.{needs}
-use Rattle.theory.proofs.ListLaws.{not-both}
-use Rattle.model.specs.declared.RuleSet.{RuleSet}
-use Rattle.model.proofs.LoopLaws.{failed, passed}
-use Rattle.model.proofs.ValidityLaws.{valid-iff}
-use Rattle.tables.specs.Answers.{checkOutcome, CheckMeaning}
-use Rattle.tables.proofs.AnswerLaws.{check-judged, check-meaning}
+use Rattle.theory_spec.proofs.ListLaws.{not-both}
+use Rattle.model_spec.specs.declared.RuleSet.{RuleSet}
+use Rattle.model_spec.proofs.LoopLaws.{failed, passed}
+use Rattle.model_spec.proofs.ValidityLaws.{valid-iff}
+use Rattle.tables_spec.specs.Answers.{checkOutcome, CheckMeaning}
+use Rattle.tables_spec.proofs.AnswerLaws.{check-judged, check-meaning}
 use Rattle.pruning.proofs.check_table.Statement.{statement}
 use Rattle.pruning.proofs.check_table.Tie as tie
 

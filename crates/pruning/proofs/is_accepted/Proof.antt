@@ -4,11 +4,11 @@ use mathlib.Core.Path.{_≡_, sym, _∙_}
 use Prim.Native.Nat.{_-_, _<_}
 use native.Mathlib.Omega.{arith}
 use borrow.Author.Needs.{needs}
-use Rattle.theory.specs.Lists.{every, numbersFrom}
-use Rattle.model.proofs.LoopLaws.{every-go, every-stop, every-end, failed, passed}
-use Rattle.tables.specs.Table.{tableEntries, entryJustified, accepted}
-use Rattle.tables.proofs.ReachLaws.{near-entries, near-justified}
-use Rattle.tables.proofs.TableLaws.{accepted-entries}
+use Rattle.theory_spec.specs.Lists.{every, numbersFrom}
+use Rattle.model_spec.proofs.LoopLaws.{every-go, every-stop, every-end, failed, passed}
+use Rattle.tables_spec.specs.Table.{tableEntries, entryJustified, accepted}
+use Rattle.tables_spec.proofs.ReachLaws.{near-entries, near-justified}
+use Rattle.tables_spec.proofs.TableLaws.{accepted-entries}
 use Rattle.pruning.proofs.is_accepted.Statement.{statement}
 use Rattle.pruning.proofs.is_accepted.Tie as tie
 

@@ -7,19 +7,19 @@ use Prim.Native.Nat.{ℕ, _≤_, _<_}
 use native.Mathlib.Omega.{arith}
 use borrow.Author.Tests.{eq-eqb, ne-eqb, lt-ltb, le-ltb}
 use borrow.Author.Needs.{needs}
-use Rattle.theory.specs.Sequences.{Sequence}
-use Rattle.model.specs.Rules.{sequenceCost, redundant}
-use Rattle.model.specs.Validity.{WellFormed}
-use Rattle.model.specs.declared.RuleSet.{RuleSet}
-use Rattle.macros.specs.Composition.{composed, asVectors, linesOf}
-use Rattle.macros.specs.Redundancy.{redundantByLines}
-use Rattle.macros.specs.declared.Vectors.{Vectors}
-use Rattle.macros.proofs.CoverLaws.{redundant-by-lines}
-use Rattle.macros.proofs.ExtensionLaws.{lines-vectors}
-use Rattle.tables.specs.Table.{tableEntries, sequenceAt, kept, entryAt, entryJustified}
-use Rattle.pruning.proofs.Shapes.{rules-3}
-use Rattle.pruning.proofs.SequenceLoopLaws.{part-sequence}
-use Rattle.tables.proofs.TableLaws.{index-sequence}
+use Rattle.theory_spec.specs.Sequences.{Sequence}
+use Rattle.model_spec.specs.Rules.{sequenceCost, redundant}
+use Rattle.model_spec.specs.Validity.{WellFormed}
+use Rattle.model_spec.specs.declared.RuleSet.{RuleSet}
+use Rattle.macros_spec.specs.Composition.{composed, asVectors, linesOf}
+use Rattle.macros_spec.specs.Redundancy.{redundantByLines}
+use Rattle.macros_spec.specs.declared.Vectors.{Vectors}
+use Rattle.macros_spec.proofs.CoverLaws.{redundant-by-lines}
+use Rattle.macros_spec.proofs.ExtensionLaws.{lines-vectors}
+use Rattle.tables_spec.specs.Table.{tableEntries, sequenceAt, kept, entryAt, entryJustified}
+use Rattle.pruning_laws.proofs.Shapes.{rules-3}
+use Rattle.pruning_laws.proofs.SequenceLoopLaws.{part-sequence}
+use Rattle.tables_spec.proofs.TableLaws.{index-sequence}
 use Rattle.pruning.proofs.justified.Statement.{statement}
 use Rattle.pruning.proofs.justified.Tie as tie
 

@@ -1,8 +1,8 @@
 -- `pruning::shape_refusal` meets its contract: a length that is refused is refused for the same cause, and a length that is told decides the rest.
 -- Assumes nothing.
 use mathlib.Core.Path.{sym, ap, _∙_}
-use Rattle.tables.specs.declared.TableSize.{TableSize}
-use Rattle.tables.proofs.AnswerLaws.{shape-refused, shape-misfit, shape-fits}
+use Rattle.tables_spec.specs.declared.TableSize.{TableSize}
+use Rattle.tables_spec.proofs.AnswerLaws.{shape-refused, shape-misfit, shape-fits}
 use Rattle.pruning.proofs.shape_refusal.Statement.{statement}
 use Rattle.pruning.proofs.shape_refusal.Tie as tie
 

@@ -4,9 +4,9 @@ use mathlib.Core.Path.{sym, ap, _∙_}
 use Prim.Native.Nat.{_*_}
 use native.Mathlib.Omega.{arith}
 use borrow.Author.Needs.{needs}
-use Rattle.tables.specs.Table.{tableEntries}
-use Rattle.tables.specs.Answers.{sizeWith}
-use Rattle.tables.proofs.SizeLaws.{reach-refused, reach-passed}
+use Rattle.tables_spec.specs.Table.{tableEntries}
+use Rattle.tables_spec.specs.Answers.{sizeWith}
+use Rattle.tables_spec.proofs.SizeLaws.{reach-refused, reach-passed}
 use Rattle.pruning.proofs.size_for.Statement.{statement}
 use Rattle.pruning.proofs.size_for.Tie as tie
 

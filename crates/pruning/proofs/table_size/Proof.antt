@@ -4,13 +4,13 @@ use mathlib.Core.Path.{_≡_, sym, subst, _∙_}
 use Prim.Native.Nat.{ℕ}
 use native.Mathlib.Omega.{arith}
 use borrow.Author.Needs.{needs}
-use Rattle.theory.proofs.ListLaws.{not-both}
-use Rattle.model.specs.declared.RuleSet.{RuleSet}
-use Rattle.model.proofs.LoopLaws.{failed, passed}
-use Rattle.model.proofs.ValidityLaws.{valid-iff}
-use Rattle.tables.specs.declared.TableSize.{TableSize}
-use Rattle.tables.specs.Answers.{tableSize, SizeMeaning}
-use Rattle.tables.proofs.SizeLaws.{size-meaning, size-refused, size-judged}
+use Rattle.theory_spec.proofs.ListLaws.{not-both}
+use Rattle.model_spec.specs.declared.RuleSet.{RuleSet}
+use Rattle.model_spec.proofs.LoopLaws.{failed, passed}
+use Rattle.model_spec.proofs.ValidityLaws.{valid-iff}
+use Rattle.tables_spec.specs.declared.TableSize.{TableSize}
+use Rattle.tables_spec.specs.Answers.{tableSize, SizeMeaning}
+use Rattle.tables_spec.proofs.SizeLaws.{size-meaning, size-refused, size-judged}
 use Rattle.pruning.proofs.table_size.Statement.{statement}
 use Rattle.pruning.proofs.table_size.Tie as tie
 

@@ -5,9 +5,9 @@ use Prim.Native.Nat.{_-_, _<_}
 use native.Mathlib.Omega.{arith}
 use lib.ListN.{length, length-set}
 use borrow.Author.Needs.{needs}
-use Rattle.tables.specs.Table.{tableEntries, builtEntry, builtTable}
-use Rattle.tables.proofs.ReachLaws.{near-entries, near-built}
-use Rattle.pruning.proofs.TableLoopLaws.{entered, entered-start, entered-more, entered-all}
+use Rattle.tables_spec.specs.Table.{tableEntries, builtEntry, builtTable}
+use Rattle.tables_spec.proofs.ReachLaws.{near-entries, near-built}
+use Rattle.pruning_laws.proofs.TableLoopLaws.{entered, entered-start, entered-more, entered-all}
 use Rattle.pruning.proofs.write_entries.Statement.{statement}
 use Rattle.pruning.proofs.write_entries.Tie as tie
 

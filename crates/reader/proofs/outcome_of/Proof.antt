@@ -2,7 +2,7 @@
 -- Assumes nothing.
 use mathlib.Core.Path.{sym}
 use borrow.Author.Needs.{needs}
-use Rattle.reader.proofs.OutcomeLaws.{outcome-line, outcome-left, outcome-duplicates, outcome-none}
+use Rattle.reader_laws.proofs.OutcomeLaws.{outcome-line, outcome-left, outcome-duplicates, outcome-none}
 use Rattle.reader.proofs.outcome_of.Statement.{statement}
 use Rattle.reader.proofs.outcome_of.Tie as tie
 

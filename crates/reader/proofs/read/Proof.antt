@@ -4,11 +4,11 @@ use mathlib.Core.Path.{_≡_, sym, subst, _∙_}
 use mathlib.Core.List.{List}
 use Prim.Native.Nat.{ℕ}
 use borrow.Author.Needs.{needs}
-use Rattle.rules.specs.Reading.{reading}
-use Rattle.rules.specs.Meaning.{ReadMeaning}
-use Rattle.rules.specs.declared.Reading.{Reading}
-use Rattle.rules.proofs.MeaningLaws.{read-meaning}
-use Rattle.reader.proofs.OutcomeLaws.{set-read, none-read}
+use Rattle.files_spec.specs.Reading.{reading}
+use Rattle.files_spec.specs.Meaning.{ReadMeaning}
+use Rattle.files_spec.specs.declared.Reading.{Reading}
+use Rattle.files_spec.proofs.MeaningLaws.{read-meaning}
+use Rattle.reader_laws.proofs.OutcomeLaws.{set-read, none-read}
 use Rattle.reader.proofs.read.Statement.{statement}
 use Rattle.reader.proofs.read.Tie as tie
 

@@ -6,16 +6,16 @@ use Prim.Native.Nat.{ℕ, _*_, _≤_}
 use native.Mathlib.Omega.{arith}
 use lib.ListN.{length}
 use borrow.Author.Needs.{needs}
-use Rattle.model.specs.Validity.{Valid}
-use Rattle.model.specs.declared.RuleSet.{RuleSet}
-use Rattle.tables.specs.Table.{sequenceCount, tableEntries, builtTable}
-use Rattle.tables.specs.Answers.{builtBuffer}
-use Rattle.tables.proofs.TableLaws.{built-length}
-use Rattle.tables.proofs.AnswerLaws.{build-ready-iff, built-whole}
-use Rattle.report.specs.Listing.{listingOf}
-use Rattle.report.specs.Marks.{MarksEarlier, tableText}
-use Rattle.report.proofs.MarkLaws.{built-earlier, table-listing}
-use Rattle.report.proofs.LengthLaws.{listing-of-length}
+use Rattle.model_spec.specs.Validity.{Valid}
+use Rattle.model_spec.specs.declared.RuleSet.{RuleSet}
+use Rattle.tables_spec.specs.Table.{sequenceCount, tableEntries, builtTable}
+use Rattle.tables_spec.specs.Answers.{builtBuffer}
+use Rattle.tables_spec.proofs.TableLaws.{built-length}
+use Rattle.tables_spec.proofs.AnswerLaws.{build-ready-iff, built-whole}
+use Rattle.report_spec.specs.Listing.{listingOf}
+use Rattle.report_spec.specs.Marks.{MarksEarlier, tableText}
+use Rattle.report_spec.proofs.MarkLaws.{built-earlier, table-listing}
+use Rattle.report_spec.proofs.LengthLaws.{listing-of-length}
 use Rattle.report.proofs.put_built.Statement.{statement}
 use Rattle.report.proofs.put_built.Tie as tie
 

@@ -5,8 +5,8 @@ use native.Mathlib.Omega.{arith}
 use lib.ListN.{length-append}
 use borrow.Author.Tests.{eq-eqb, ne-eqb}
 use borrow.Author.Needs.{needs}
-use Rattle.rules.specs.Text.{lineFeed, numeral, line}
-use Rattle.rules.proofs.LengthLaws.{numeral-length}
+use Rattle.files_spec.specs.Text.{lineFeed, numeral, line}
+use Rattle.files_spec.proofs.LengthLaws.{numeral-length}
 use Rattle.report.proofs.put_listing.Statement.{statement}
 use Rattle.report.proofs.put_listing.Tie as tie
 

@@ -7,9 +7,9 @@ use native.Mathlib.Omega.{arith}
 use lib.ListN.{length, take, replicate, length-replicate}
 use lib.Seq.{length-take-le}
 use borrow.Author.Needs.{needs}
-use Rattle.model.specs.declared.RuleSet.{RuleSet}
-use Rattle.tables.specs.Table.{sequenceCount, tableEntries}
-use Rattle.tables.proofs.CountLaws.{count-next}
+use Rattle.model_spec.specs.declared.RuleSet.{RuleSet}
+use Rattle.tables_spec.specs.Table.{sequenceCount, tableEntries}
+use Rattle.tables_spec.proofs.CountLaws.{count-next}
 use Rattle.report.proofs.put_set.Statement.{statement}
 use Rattle.report.proofs.put_set.Tie as tie
 

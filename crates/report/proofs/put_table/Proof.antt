@@ -6,10 +6,10 @@ use Prim.Native.Nat.{ℕ, _+_}
 use native.Mathlib.Omega.{arith}
 use lib.ListN.{length, length-append}
 use borrow.Author.Needs.{needs}
-use Rattle.rules.specs.Text.{bytes, lineFeed, numeral, line}
-use Rattle.writer.proofs.OverlayLaws.{laid-append}
-use Rattle.tables.proofs.CountLaws.{count-prefix}
-use Rattle.report.specs.Marks.{tableMarks, marksText, tableText}
+use Rattle.files_spec.specs.Text.{bytes, lineFeed, numeral, line}
+use Rattle.output_laws.proofs.OverlayLaws.{laid-append}
+use Rattle.tables_spec.proofs.CountLaws.{count-prefix}
+use Rattle.report_spec.specs.Marks.{tableMarks, marksText, tableText}
 use Rattle.report.proofs.put_table.Statement.{statement}
 use Rattle.report.proofs.put_table.Tie as tie
 

@@ -8,16 +8,16 @@ use native.Mathlib.Omega.{arith}
 use lib.Dec.{eqb}
 use lib.ListN.{length, replicate}
 use borrow.Author.Needs.{needs}
-use Rattle.model.specs.Validity.{Valid}
-use Rattle.model.proofs.BufferLaws.{filled-whole}
-use Rattle.rules.specs.Text.{numeral, line}
-use Rattle.rules.specs.Reading.{reading}
-use Rattle.rules.specs.declared.Reading.{Reading}
-use Rattle.rules.proofs.ReadTextLaws.{read-valid}
-use Rattle.writer.proofs.OverlayLaws.{laid-length, zeros-laid}
-use Rattle.report.specs.Listing.{listingOf, listing}
-use Rattle.report.specs.Report.{reportLength, reported, ReportMeaning}
-use Rattle.report.proofs.ReportLaws.{report-fits, report-short, report-meaning}
+use Rattle.model_spec.specs.Validity.{Valid}
+use Rattle.model_spec.proofs.BufferLaws.{filled-whole}
+use Rattle.files_spec.specs.Text.{numeral, line}
+use Rattle.files_spec.specs.Reading.{reading}
+use Rattle.files_spec.specs.declared.Reading.{Reading}
+use Rattle.files_spec.proofs.ReadTextLaws.{read-valid}
+use Rattle.output_laws.proofs.OverlayLaws.{laid-length, zeros-laid}
+use Rattle.report_spec.specs.Listing.{listingOf, listing}
+use Rattle.report_spec.specs.Report.{reportLength, reported, ReportMeaning}
+use Rattle.report_spec.proofs.ReportLaws.{report-fits, report-short, report-meaning}
 use Rattle.report.proofs.report.Statement.{statement}
 use Rattle.report.proofs.report.Tie as tie
 

@@ -2,9 +2,9 @@
 -- Assumes nothing.
 use mathlib.Core.Path.{refl}
 use borrow.Author.Needs.{needs}
-use Rattle.search.specs.Visits.{noBest, noProgress}
-use Rattle.search.proofs.ExploredLaws.{explored-whole}
-use Rattle.search.proofs.LentLaws.{start-fits, table-fits, lent-whole, reached-first}
+use Rattle.search_laws.specs.Visits.{noBest, noProgress}
+use Rattle.search_laws.proofs.ExploredLaws.{explored-whole}
+use Rattle.search_laws.proofs.LentLaws.{start-fits, table-fits, lent-whole, reached-first}
 use Rattle.search.proofs.explored.Statement.{statement}
 use Rattle.search.proofs.explored.Tie as tie
 

@@ -6,12 +6,12 @@ use Prim.Native.Nat.{_≤_}
 use lib.ListN.{length, replicate, length-replicate}
 use borrow.Author.Needs.{needs}
 use borrow.Author.Tests.{not-true, not-false}
-use Rattle.model.specs.Refusals.{firstRefusal}
-use Rattle.model.proofs.BufferLaws.{filled-whole}
-use Rattle.queries.specs.Query.{Query, asked}
-use Rattle.queries.specs.Searched.{queryCauses, noMove}
-use Rattle.queries.proofs.OutcomeLaws.{withoutPlan, searched-refused}
-use Rattle.search.proofs.AnswerLaws.{leftWith, answers, same-refusal, tight-unrefused, explored-limited, explored-unsolvable, explored-room, explored-solved}
+use Rattle.model_spec.specs.Refusals.{firstRefusal}
+use Rattle.model_spec.proofs.BufferLaws.{filled-whole}
+use Rattle.search_spec.specs.Query.{Query, asked}
+use Rattle.search_spec.specs.Searched.{queryCauses, noMove}
+use Rattle.search_spec.proofs.OutcomeLaws.{withoutPlan, searched-refused}
+use Rattle.search_laws.proofs.AnswerLaws.{leftWith, answers, same-refusal, tight-unrefused, explored-limited, explored-unsolvable, explored-room, explored-solved}
 use Rattle.search.proofs.search.Statement.{statement}
 use Rattle.search.proofs.search.Tie as tie
 

@@ -8,18 +8,18 @@ use native.Mathlib.Omega.{arith}
 use lib.ListN.{length}
 use borrow.Author.Tests.{lt-ltb, le-ltb}
 use borrow.Author.Needs.{needs}
-use Rattle.theory.specs.Lists.{padded}
-use Rattle.model.specs.Validity.{valid, WellFormed}
-use Rattle.model.specs.declared.RuleSet.{RuleSet}
-use Rattle.model.proofs.LoopLaws.{failed, passed}
-use Rattle.model.proofs.ValidityLaws.{valid-iff}
-use Rattle.rules.specs.File.{render}
-use Rattle.rules.specs.Writing.{writeCauses, writtenText, written, writtenBuffer}
-use Rattle.rules.specs.Meaning.{WriteMeaning}
-use Rattle.rules.specs.declared.Written.{Written}
-use Rattle.rules.proofs.LengthLaws.{render-bound}
-use Rattle.rules.proofs.MeaningLaws.{write-meaning}
-use Rattle.writer.proofs.OverlayLaws.{laid-length, zeros-whole, zeros-laid}
+use Rattle.theory_spec.specs.Lists.{padded}
+use Rattle.model_spec.specs.Validity.{valid, WellFormed}
+use Rattle.model_spec.specs.declared.RuleSet.{RuleSet}
+use Rattle.model_spec.proofs.LoopLaws.{failed, passed}
+use Rattle.model_spec.proofs.ValidityLaws.{valid-iff}
+use Rattle.files_spec.specs.File.{render}
+use Rattle.files_spec.specs.Writing.{writeCauses, writtenText, written, writtenBuffer}
+use Rattle.files_spec.specs.Meaning.{WriteMeaning}
+use Rattle.files_spec.specs.declared.Written.{Written}
+use Rattle.files_spec.proofs.LengthLaws.{render-bound}
+use Rattle.files_spec.proofs.MeaningLaws.{write-meaning}
+use Rattle.output_laws.proofs.OverlayLaws.{laid-length, zeros-whole, zeros-laid}
 use Rattle.writer.proofs.write.Statement.{statement}
 use Rattle.writer.proofs.write.Tie as tie
 

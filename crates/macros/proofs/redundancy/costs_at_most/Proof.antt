@@ -6,9 +6,9 @@ use native.Mathlib.Omega.{arith}
 use lib.ListN.{length, drop}
 use borrow.Author.Tests.{le-leb, lt-leb}
 use borrow.Author.Needs.{needs}
-use Rattle.model.specs.Rules.{sequenceCost}
-use Rattle.macros.proofs.MoveLaws.{numbered-at}
-use Rattle.macros.proofs.MoveLoopLaws.{cost-go, cost-end}
+use Rattle.model_spec.specs.Rules.{sequenceCost}
+use Rattle.macros_spec.proofs.MoveLaws.{numbered-at}
+use Rattle.macros_spec.proofs.MoveLoopLaws.{cost-go, cost-end}
 use Rattle.macros.proofs.redundancy.costs_at_most.Statement.{statement}
 use Rattle.macros.proofs.redundancy.costs_at_most.Tie as tie
 

@@ -7,16 +7,16 @@ use native.Mathlib.Omega.{arith}
 use lib.Dec.{leb}
 use borrow.Author.Tests.{not-true, not-false}
 use borrow.Author.Needs.{needs}
-use Rattle.theory.specs.Lists.{any, every, within}
-use Rattle.theory.specs.Sequences.{Sequence, Numbered}
-use Rattle.model.specs.Rules.{runIn, sequenceCost}
-use Rattle.model.specs.declared.RuleSet.{RuleSet}
-use Rattle.model.proofs.LoopLaws.{failed, passed}
-use Rattle.macros.specs.Composition.{linesOf}
-use Rattle.macros.specs.declared.Vectors.{Vectors}
-use Rattle.macros.specs.Redundancy.{endsIn, covers, lastNumber, redundantByLines, TellsRedundancy}
-use Rattle.macros.proofs.CoverLaws.{test-tells}
-use Rattle.macros.proofs.MoveLaws.{no-unknown-iff, numbered-test, numbered-wider}
+use Rattle.theory_spec.specs.Lists.{any, every, within}
+use Rattle.theory_spec.specs.Sequences.{Sequence, Numbered}
+use Rattle.model_spec.specs.Rules.{runIn, sequenceCost}
+use Rattle.model_spec.specs.declared.RuleSet.{RuleSet}
+use Rattle.model_spec.proofs.LoopLaws.{failed, passed}
+use Rattle.macros_spec.specs.Composition.{linesOf}
+use Rattle.macros_spec.specs.declared.Vectors.{Vectors}
+use Rattle.macros_spec.specs.Redundancy.{endsIn, covers, lastNumber, redundantByLines, TellsRedundancy}
+use Rattle.macros_spec.proofs.CoverLaws.{test-tells}
+use Rattle.macros_spec.proofs.MoveLaws.{no-unknown-iff, numbered-test, numbered-wider}
 use Rattle.macros.proofs.redundancy.is_redundant.Statement.{statement}
 use Rattle.macros.proofs.redundancy.is_redundant.Tie as tie
 

@@ -5,11 +5,11 @@ use Prim.Native.Nat.{_≤_, _-_}
 use native.Mathlib.Omega.{arith}
 use lib.ListN.{length, drop}
 use borrow.Author.Needs.{needs}
-use Rattle.model.specs.Rules.{runIn}
-use Rattle.model.proofs.LoopLaws.{failed, passed}
-use Rattle.macros.specs.Redundancy.{endsIn}
-use Rattle.macros.proofs.MoveLaws.{numbered-at}
-use Rattle.macros.proofs.MoveLoopLaws.{leads-go, leads-stop, leads-end}
+use Rattle.model_spec.specs.Rules.{runIn}
+use Rattle.model_spec.proofs.LoopLaws.{failed, passed}
+use Rattle.macros_spec.specs.Redundancy.{endsIn}
+use Rattle.macros_spec.proofs.MoveLaws.{numbered-at}
+use Rattle.macros_spec.proofs.MoveLoopLaws.{leads-go, leads-stop, leads-end}
 use Rattle.macros.proofs.redundancy.leads.Statement.{statement}
 use Rattle.macros.proofs.redundancy.leads.Tie as tie
 

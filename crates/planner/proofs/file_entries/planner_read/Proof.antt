@@ -2,7 +2,7 @@
 -- Assumes nothing.
 use mathlib.Core.Path.{ap}
 use borrow.Author.Needs.{needs}
-use Rattle.rules.specs.declared.Reading.{Reading}
+use Rattle.files_spec.specs.declared.Reading.{Reading}
 use Rattle.planner.proofs.file_entries.planner_read.Statement.{statement}
 use Rattle.planner.proofs.file_entries.planner_read.Tie as tie
 

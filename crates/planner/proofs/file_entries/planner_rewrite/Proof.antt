@@ -6,11 +6,11 @@ use Prim.Native.Nat.{ℕ, _/_, _%_, _<_}
 use native.Mathlib.Omega.{arith}
 use lib.ListN.{length}
 use borrow.Author.Needs.{needs}
-use Rattle.rules.specs.declared.Written.{Written}
-use Rattle.planner.specs.PackedLength.{packedLength}
-use Rattle.planner.specs.Rewriting.{rewritten, packedRewritten, RewriteMeaning}
-use Rattle.planner.proofs.PackedLengthLaws.{packed-low, packed-rest}
-use Rattle.planner.proofs.RewritingLaws.{rewrite-outcome, rewrite-length}
+use Rattle.files_spec.specs.declared.Written.{Written}
+use Rattle.planner_spec.specs.PackedLength.{packedLength}
+use Rattle.planner_spec.specs.Rewriting.{rewritten, packedRewritten, RewriteMeaning}
+use Rattle.planner_spec.proofs.PackedLengthLaws.{packed-low, packed-rest}
+use Rattle.planner_spec.proofs.RewritingLaws.{rewrite-outcome, rewrite-length}
 use Rattle.planner.proofs.file_entries.planner_rewrite.Statement.{statement}
 use Rattle.planner.proofs.file_entries.planner_rewrite.Tie as tie
 

@@ -6,13 +6,13 @@ use mathlib.Core.List.{List}
 use Prim.Native.Nat.{ℕ}
 use lib.ListN.{length, replicate}
 use borrow.Author.Needs.{needs}
-use Rattle.model.proofs.BufferLaws.{filled-whole}
-use Rattle.rules.specs.Reading.{reading}
-use Rattle.rules.specs.Writing.{written, writtenBuffer}
-use Rattle.rules.specs.declared.Reading.{Reading}
-use Rattle.rules.specs.declared.Written.{Written}
-use Rattle.planner.specs.Rewriting.{rewritten, rewrittenBuffer, RewriteMeaning}
-use Rattle.planner.proofs.RewritingLaws.{Rewrites, not-read, was-read, rewrites-mean}
+use Rattle.model_spec.proofs.BufferLaws.{filled-whole}
+use Rattle.files_spec.specs.Reading.{reading}
+use Rattle.files_spec.specs.Writing.{written, writtenBuffer}
+use Rattle.files_spec.specs.declared.Reading.{Reading}
+use Rattle.files_spec.specs.declared.Written.{Written}
+use Rattle.planner_spec.specs.Rewriting.{rewritten, rewrittenBuffer, RewriteMeaning}
+use Rattle.planner_spec.proofs.RewritingLaws.{Rewrites, not-read, was-read, rewrites-mean}
 use Rattle.planner.proofs.file_entries.rewrite.Statement.{statement}
 use Rattle.planner.proofs.file_entries.rewrite.Tie as tie
 

@@ -5,9 +5,9 @@ use Prim.Native.Nat.{_-_, _≤_}
 use native.Mathlib.Omega.{arith}
 use lib.ListN.{getD, List·getD-eq-default}
 use borrow.Author.Needs.{needs}
-use Rattle.tables.specs.Table.{entryBytes}
-use Rattle.planner.proofs.MacroBytesLaws.{byte-condition, byte-effect, byte-cost}
-use Rattle.planner.proofs.MacroShape.{condition-16, effect-16}
+use Rattle.tables_spec.specs.Table.{entryBytes}
+use Rattle.planner_spec.proofs.MacroBytesLaws.{byte-condition, byte-effect, byte-cost}
+use Rattle.planner_spec.proofs.MacroShape.{condition-16, effect-16}
 use Rattle.planner.proofs.macro_entry.macro_byte.Statement.{statement}
 use Rattle.planner.proofs.macro_entry.macro_byte.Tie as tie
 

@@ -5,13 +5,13 @@ use mathlib.Core.List.{List}
 use Prim.Native.Nat.{ℕ}
 use lib.ListN.{length}
 use borrow.Author.Needs.{needs}
-use Rattle.model.proofs.BufferLaws.{filled-whole}
-use Rattle.rules.specs.declared.Reading.{Reading}
-use Rattle.macros.specs.Answers.{macroAnswer}
-use Rattle.macros.specs.declared.MacroAnswer.{MacroAnswer}
-use Rattle.planner.specs.TextMacro.{macroBuffer, textMacro, TextMacroMeaning}
-use Rattle.planner.proofs.MacroBytesLaws.{blank-buffer}
-use Rattle.planner.proofs.TextMacroLaws.{macro-read, macro-refused, text-macro-meaning}
+use Rattle.model_spec.proofs.BufferLaws.{filled-whole}
+use Rattle.files_spec.specs.declared.Reading.{Reading}
+use Rattle.macros_spec.specs.Answers.{macroAnswer}
+use Rattle.macros_spec.specs.declared.MacroAnswer.{MacroAnswer}
+use Rattle.planner_spec.specs.TextMacro.{macroBuffer, textMacro, TextMacroMeaning}
+use Rattle.planner_spec.proofs.MacroBytesLaws.{blank-buffer}
+use Rattle.planner_spec.proofs.TextMacroLaws.{macro-read, macro-refused, text-macro-meaning}
 use Rattle.planner.proofs.macro_entry.planner_macro.Statement.{statement}
 use Rattle.planner.proofs.macro_entry.planner_macro.Tie as tie
 

@@ -7,9 +7,9 @@ use native.Mathlib.Omega.{arith}
 use lib.ListN.{length, length-set, drop-of-length-le}
 use lib.Seq.{take-all}
 use borrow.Author.Needs.{needs}
-use Rattle.search.proofs.CopyLaws.{copied, copied-more}
-use Rattle.planner.specs.TextMacro.{macroBuffer}
-use Rattle.planner.proofs.MacroBytesLaws.{buffer-size, buffer-at}
+use Rattle.search_laws.proofs.CopyLaws.{copied, copied-more}
+use Rattle.planner_spec.specs.TextMacro.{macroBuffer}
+use Rattle.planner_spec.proofs.MacroBytesLaws.{buffer-size, buffer-at}
 use Rattle.planner.proofs.macro_entry.put_macro.Statement.{statement}
 use Rattle.planner.proofs.macro_entry.put_macro.Tie as tie
 

@@ -2,7 +2,7 @@
 -- Assumes nothing.
 use native.Mathlib.Omega.{arith}
 use borrow.Author.Needs.{needs}
-use Rattle.planner.specs.PackedLength.{packedLength}
+use Rattle.planner_spec.specs.PackedLength.{packedLength}
 use Rattle.planner.proofs.packing.pack_length.Statement.{statement}
 use Rattle.planner.proofs.packing.pack_length.Tie as tie
 

@@ -2,7 +2,7 @@
 -- Assumes nothing.
 use native.Mathlib.Omega.{arith}
 use borrow.Author.Needs.{needs}
-use Rattle.planner.specs.Packed.{packed}
+use Rattle.planner_spec.specs.Packed.{packed}
 use Rattle.planner.proofs.search_entry.pack.Statement.{statement}
 use Rattle.planner.proofs.search_entry.pack.Tie as tie
 

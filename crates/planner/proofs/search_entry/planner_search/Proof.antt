@@ -5,12 +5,12 @@ use mathlib.Core.List.{List}
 use Prim.Native.Nat.{ℕ, _<_}
 use lib.ListN.{length}
 use borrow.Author.Needs.{needs}
-use Rattle.queries.specs.Query.{Query, asked}
-use Rattle.queries.specs.Searched.{Searched}
-use Rattle.planner.specs.Packed.{packed, unpacked, searchedText, packedSearch}
-use Rattle.planner.specs.TextSearch.{TextSearchMeaning}
-use Rattle.planner.proofs.PackedLaws.{unpacked-packed}
-use Rattle.planner.proofs.TextSearchLaws.{entry-fits, text-search-meaning}
+use Rattle.search_spec.specs.Query.{Query, asked}
+use Rattle.search_spec.specs.Searched.{Searched}
+use Rattle.planner_spec.specs.Packed.{packed, unpacked, searchedText, packedSearch}
+use Rattle.planner_spec.specs.TextSearch.{TextSearchMeaning}
+use Rattle.planner_spec.proofs.PackedLaws.{unpacked-packed}
+use Rattle.planner_spec.proofs.TextSearchLaws.{entry-fits, text-search-meaning}
 use Rattle.planner.proofs.search_entry.planner_search.Statement.{statement}
 use Rattle.planner.proofs.search_entry.planner_search.Tie as tie
 

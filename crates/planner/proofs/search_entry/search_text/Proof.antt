@@ -6,13 +6,13 @@ use mathlib.Core.List.{List}
 use Prim.Native.Nat.{ℕ}
 use lib.ListN.{length, replicate}
 use borrow.Author.Needs.{needs}
-use Rattle.model.proofs.BufferLaws.{filled-whole}
-use Rattle.rules.specs.Reading.{reading}
-use Rattle.rules.specs.declared.Reading.{Reading}
-use Rattle.queries.specs.Query.{Query, asked}
-use Rattle.queries.specs.Searched.{Searched, searched, noMove}
-use Rattle.planner.specs.Packed.{textRefused, searchedText}
-use Rattle.planner.proofs.TextSearchLaws.{refused-text, read-text, text-found}
+use Rattle.model_spec.proofs.BufferLaws.{filled-whole}
+use Rattle.files_spec.specs.Reading.{reading}
+use Rattle.files_spec.specs.declared.Reading.{Reading}
+use Rattle.search_spec.specs.Query.{Query, asked}
+use Rattle.search_spec.specs.Searched.{Searched, searched, noMove}
+use Rattle.planner_spec.specs.Packed.{textRefused, searchedText}
+use Rattle.planner_spec.proofs.TextSearchLaws.{refused-text, read-text, text-found}
 use Rattle.planner.proofs.search_entry.search_text.Statement.{statement}
 use Rattle.planner.proofs.search_entry.search_text.Tie as tie
 

@@ -5,11 +5,11 @@ use mathlib.Core.List.{List}
 use Prim.Native.Nat.{ℕ}
 use lib.ListN.{length}
 use borrow.Author.Needs.{needs}
-use Rattle.model.proofs.BufferLaws.{filled-whole}
-use Rattle.rules.specs.declared.Reading.{Reading}
-use Rattle.tables.specs.Answers.{buildOutcome, builtBuffer}
-use Rattle.planner.specs.TextTables.{textBuildOutcome, textBuiltBuffer, TextBuildMeaning}
-use Rattle.planner.proofs.TextTableLaws.{build-read, build-refused, text-build-meaning}
+use Rattle.model_spec.proofs.BufferLaws.{filled-whole}
+use Rattle.files_spec.specs.declared.Reading.{Reading}
+use Rattle.tables_spec.specs.Answers.{buildOutcome, builtBuffer}
+use Rattle.planner_spec.specs.TextTables.{textBuildOutcome, textBuiltBuffer, TextBuildMeaning}
+use Rattle.planner_spec.proofs.TextTableLaws.{build-read, build-refused, text-build-meaning}
 use Rattle.planner.proofs.table_entries.planner_build_table.Statement.{statement}
 use Rattle.planner.proofs.table_entries.planner_build_table.Tie as tie
 

@@ -4,10 +4,10 @@ use mathlib.Core.Path.{_≡_, sym, ap, subst, _∙_}
 use mathlib.Core.List.{List}
 use Prim.Native.Nat.{ℕ}
 use borrow.Author.Needs.{needs}
-use Rattle.rules.specs.declared.Reading.{Reading}
-use Rattle.tables.specs.Answers.{checkOutcome}
-use Rattle.planner.specs.TextTables.{textCheckOutcome, TextCheckMeaning}
-use Rattle.planner.proofs.TextTableLaws.{check-read, check-refused, text-check-meaning}
+use Rattle.files_spec.specs.declared.Reading.{Reading}
+use Rattle.tables_spec.specs.Answers.{checkOutcome}
+use Rattle.planner_spec.specs.TextTables.{textCheckOutcome, TextCheckMeaning}
+use Rattle.planner_spec.proofs.TextTableLaws.{check-read, check-refused, text-check-meaning}
 use Rattle.planner.proofs.table_entries.planner_check_table.Statement.{statement}
 use Rattle.planner.proofs.table_entries.planner_check_table.Tie as tie
 

@@ -5,13 +5,13 @@ use mathlib.Core.List.{List}
 use Prim.Native.Nat.{ℕ, _/_, _%_}
 use native.Mathlib.Omega.{arith}
 use borrow.Author.Needs.{needs}
-use Rattle.rules.specs.declared.Reading.{Reading}
-use Rattle.tables.specs.declared.TableSize.{TableSize}
-use Rattle.tables.specs.Answers.{tableSize}
-use Rattle.planner.specs.PackedLength.{packedLength}
-use Rattle.planner.specs.TextTables.{textTableSize, packedTableSize, TextSizeMeaning}
-use Rattle.planner.proofs.PackedLengthLaws.{packed-low, packed-rest}
-use Rattle.planner.proofs.TextTableLaws.{size-read, size-refused, size-byte, text-size-meaning}
+use Rattle.files_spec.specs.declared.Reading.{Reading}
+use Rattle.tables_spec.specs.declared.TableSize.{TableSize}
+use Rattle.tables_spec.specs.Answers.{tableSize}
+use Rattle.planner_spec.specs.PackedLength.{packedLength}
+use Rattle.planner_spec.specs.TextTables.{textTableSize, packedTableSize, TextSizeMeaning}
+use Rattle.planner_spec.proofs.PackedLengthLaws.{packed-low, packed-rest}
+use Rattle.planner_spec.proofs.TextTableLaws.{size-read, size-refused, size-byte, text-size-meaning}
 use Rattle.planner.proofs.table_entries.planner_table_size.Statement.{statement}
 use Rattle.planner.proofs.table_entries.planner_table_size.Tie as tie
 

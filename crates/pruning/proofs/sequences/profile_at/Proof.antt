@@ -5,14 +5,14 @@ use Prim.Native.Nat.{_≤_}
 use native.Mathlib.Omega.{arith}
 use lib.ListN.{length}
 use borrow.Author.Needs.{needs}
-use Rattle.theory.specs.Sequences.{Sequence, Numbered}
-use Rattle.model.specs.Rules.{sequenceCost}
-use Rattle.macros.specs.Composition.{composed, asVectors}
-use Rattle.macros.proofs.MoveLaws.{numbered-wider}
-use Rattle.tables.specs.Table.{tableEntries, sequenceAt}
-use Rattle.pruning.proofs.Shapes.{rules-3}
-use Rattle.pruning.proofs.SequenceLoopLaws.{part-sequence}
-use Rattle.tables.proofs.TableLaws.{index-sequence}
+use Rattle.theory_spec.specs.Sequences.{Sequence, Numbered}
+use Rattle.model_spec.specs.Rules.{sequenceCost}
+use Rattle.macros_spec.specs.Composition.{composed, asVectors}
+use Rattle.macros_spec.proofs.MoveLaws.{numbered-wider}
+use Rattle.tables_spec.specs.Table.{tableEntries, sequenceAt}
+use Rattle.pruning_laws.proofs.Shapes.{rules-3}
+use Rattle.pruning_laws.proofs.SequenceLoopLaws.{part-sequence}
+use Rattle.tables_spec.proofs.TableLaws.{index-sequence}
 use Rattle.pruning.proofs.sequences.profile_at.Statement.{statement}
 use Rattle.pruning.proofs.sequences.profile_at.Tie as tie
 

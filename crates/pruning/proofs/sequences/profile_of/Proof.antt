@@ -6,11 +6,11 @@ use Prim.Native.Nat.{_+_, _*_, _≤_, _-_}
 use native.Mathlib.Omega.{arith}
 use lib.ListN.{length, take, drop}
 use borrow.Author.Needs.{needs}
-use Rattle.model.specs.Rules.{ruleAt, sequenceCost}
-use Rattle.macros.specs.Composition.{emptyLines, composedFrom, composed, asVectors}
-use Rattle.macros.proofs.MoveLaws.{numbered-at}
-use Rattle.macros.proofs.MoveLoopLaws.{cost-go, cost-end}
-use Rattle.macros.proofs.CompositionLoopLaws.{compose-go, compose-end}
+use Rattle.model_spec.specs.Rules.{ruleAt, sequenceCost}
+use Rattle.macros_spec.specs.Composition.{emptyLines, composedFrom, composed, asVectors}
+use Rattle.macros_spec.proofs.MoveLaws.{numbered-at}
+use Rattle.macros_spec.proofs.MoveLoopLaws.{cost-go, cost-end}
+use Rattle.macros_spec.proofs.CompositionLoopLaws.{compose-go, compose-end}
 use Rattle.pruning.proofs.sequences.profile_of.Statement.{statement}
 use Rattle.pruning.proofs.sequences.profile_of.Tie as tie
 

@@ -7,9 +7,9 @@ use native.Mathlib.Nat.{mod-lt}
 use native.Mathlib.Omega.{arith}
 use lib.ListN.{length, drop, length-set}
 use borrow.Author.Needs.{needs}
-use Rattle.theory.specs.Indices.{sequenceOf}
-use Rattle.tables.specs.Table.{sequenceCount}
-use Rattle.pruning.proofs.SequenceLoopLaws.{some-left, rest-fits, sequence-go, sequence-end}
+use Rattle.theory_spec.specs.Indices.{sequenceOf}
+use Rattle.tables_spec.specs.Table.{sequenceCount}
+use Rattle.pruning_laws.proofs.SequenceLoopLaws.{some-left, rest-fits, sequence-go, sequence-end}
 use Rattle.pruning.proofs.sequences.sequence_at.Statement.{statement}
 use Rattle.pruning.proofs.sequences.sequence_at.Tie as tie
 

@@ -5,8 +5,8 @@ use Prim.Native.Nat.{_+_, _*_, _≤_, _-_}
 use native.Mathlib.Numerals.{add-one}
 use native.Mathlib.Omega.{arith}
 use borrow.Author.Needs.{needs}
-use Rattle.tables.specs.Table.{sequenceCount}
-use Rattle.tables.proofs.CountLaws.{count-next, count-bound, count-prefix}
+use Rattle.tables_spec.specs.Table.{sequenceCount}
+use Rattle.tables_spec.proofs.CountLaws.{count-next, count-bound, count-prefix}
 use Rattle.pruning.proofs.sequences.sequence_count.Statement.{statement}
 use Rattle.pruning.proofs.sequences.sequence_count.Tie as tie
 

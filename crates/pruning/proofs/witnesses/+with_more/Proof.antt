@@ -12,14 +12,14 @@ use borrow.Author.Needs.{needs}
 use borrow.Author.Tests.{leb-true}
 use borrow.Fn.Kinds.{In}
 use borrow.Fn.PlainCycle.{Measures, is, falls, and}
-use Rattle.theory.specs.Sequences.{level}
-use Rattle.theory.proofs.ListLaws.{and-split}
-use Rattle.model.specs.declared.RuleSet.{RuleSet}
-use Rattle.tables.specs.Table.{sequenceCount, kept}
-use Rattle.pruning.specs.Witnesses.{firstBehind, serves}
-use Rattle.tables.proofs.CountLaws.{count-prefix, behind-bound}
-use Rattle.pruning.proofs.WitnessLaws.{fromRule, runsHere, throughRule, from-first, from-end, from-next, from-through, from-found}
-use Rattle.model.proofs.after.Reads as after-reads
+use Rattle.theory_spec.specs.Sequences.{level}
+use Rattle.theory_spec.proofs.ListLaws.{and-split}
+use Rattle.model_spec.specs.declared.RuleSet.{RuleSet}
+use Rattle.tables_spec.specs.Table.{sequenceCount, kept}
+use Rattle.pruning_laws.specs.Witnesses.{firstBehind, serves}
+use Rattle.tables_spec.proofs.CountLaws.{count-prefix, behind-bound}
+use Rattle.pruning_laws.proofs.WitnessLaws.{fromRule, runsHere, throughRule, from-first, from-end, from-next, from-through, from-found}
+use Rattle.states.proofs.after.Reads as after-reads
 use Rattle.pruning.proofs.sequences.index_behind.Reads as index-behind-reads
 use Rattle.pruning.proofs.witnesses.goes_on.Reads as goes-on-reads
 use Rattle.pruning.proofs.witnesses.with_one_more.Reads as with-one-more-reads

@@ -7,17 +7,17 @@ use native.Mathlib.Omega.{arith}
 use lib.Dec.{eqb}
 use borrow.Author.Tests.{eq-eqb, ne-eqb}
 use borrow.Author.Needs.{needs}
-use Rattle.theory.specs.Sequences.{sequences}
-use Rattle.model.specs.Rules.{sequenceCost}
-use Rattle.model.specs.Validity.{WellFormed}
-use Rattle.model.specs.declared.RuleSet.{RuleSet}
-use Rattle.macros.specs.Composition.{composed, asVectors, linesOf}
-use Rattle.macros.specs.declared.Vectors.{Vectors}
-use Rattle.macros.proofs.ExtensionLaws.{lines-vectors}
-use Rattle.tables.specs.Table.{tableEntries, sequenceAt, kept, builtEntry}
-use Rattle.pruning.specs.Witnesses.{firstBehind, serves}
-use Rattle.tables.proofs.TableLaws.{entries-bound}
-use Rattle.pruning.proofs.EntryLaws.{built-found}
+use Rattle.theory_spec.specs.Sequences.{sequences}
+use Rattle.model_spec.specs.Rules.{sequenceCost}
+use Rattle.model_spec.specs.Validity.{WellFormed}
+use Rattle.model_spec.specs.declared.RuleSet.{RuleSet}
+use Rattle.macros_spec.specs.Composition.{composed, asVectors, linesOf}
+use Rattle.macros_spec.specs.declared.Vectors.{Vectors}
+use Rattle.macros_spec.proofs.ExtensionLaws.{lines-vectors}
+use Rattle.tables_spec.specs.Table.{tableEntries, sequenceAt, kept, builtEntry}
+use Rattle.pruning_laws.specs.Witnesses.{firstBehind, serves}
+use Rattle.tables_spec.proofs.TableLaws.{entries-bound}
+use Rattle.pruning_laws.proofs.EntryLaws.{built-found}
 use Rattle.pruning.proofs.witnesses.entry_for.Statement.{statement}
 use Rattle.pruning.proofs.witnesses.entry_for.Tie as tie
 

@@ -5,8 +5,8 @@ use mathlib.Core.Bool.{and-true}
 use lib.Dec.{leb}
 use borrow.Author.Tests.{le-leb, lt-leb}
 use borrow.Author.Needs.{needs}
-use Rattle.model.specs.States.{applicable}
-use Rattle.model.proofs.LoopLaws.{failed, passed, first-fails, second-fails}
+use Rattle.model_spec.specs.States.{applicable}
+use Rattle.model_spec.proofs.LoopLaws.{failed, passed, first-fails, second-fails}
 use Rattle.pruning.proofs.witnesses.finishes.Statement.{statement}
 use Rattle.pruning.proofs.witnesses.finishes.Tie as tie
 

@@ -3,7 +3,7 @@
 use mathlib.Core.Path.{sym}
 use borrow.Author.Tests.{le-leb, lt-leb}
 use borrow.Author.Needs.{needs}
-use Rattle.model.proofs.LoopLaws.{first-fails}
+use Rattle.model_spec.proofs.LoopLaws.{first-fails}
 use Rattle.pruning.proofs.witnesses.goes_on.Statement.{statement}
 use Rattle.pruning.proofs.witnesses.goes_on.Tie as tie
 

@@ -6,9 +6,9 @@ use Prim.Native.Nat.{_≤_, _-_}
 use native.Mathlib.Omega.{arith}
 use lib.ListN.{drop}
 use borrow.Author.Needs.{needs}
-use Rattle.theory.specs.Lists.{same}
-use Rattle.model.specs.States.{valueOf, valuesOf, successor}
-use Rattle.model.proofs.LoopLaws.{same-go, same-stop, same-end}
+use Rattle.theory_spec.specs.Lists.{same}
+use Rattle.model_spec.specs.States.{valueOf, valuesOf, successor}
+use Rattle.model_spec.proofs.LoopLaws.{same-go, same-stop, same-end}
 use Rattle.pruning.proofs.witnesses.leads_to.Statement.{statement}
 use Rattle.pruning.proofs.witnesses.leads_to.Tie as tie
 

@@ -7,16 +7,16 @@ use Prim.Native.Nat.{ℕ, _-_, _≤_}
 use native.Mathlib.Omega.{arith}
 use borrow.Author.Tests.{not-true, not-false, le-leb}
 use borrow.Author.Needs.{needs}
-use Rattle.theory.specs.Sequences.{Sequence, sequences}
-use Rattle.model.specs.Rules.{sequenceCost}
-use Rattle.model.specs.declared.RuleSet.{RuleSet}
-use Rattle.macros.specs.Composition.{linesOf}
-use Rattle.macros.specs.Redundancy.{covers}
-use Rattle.macros.specs.declared.Vectors.{Vectors}
-use Rattle.tables.specs.Table.{kept}
-use Rattle.pruning.specs.Witnesses.{firstBehind, serves}
-use Rattle.tables.proofs.CountLaws.{count-levels}
-use Rattle.pruning.proofs.WitnessLaws.{serves-last, upTo, empty-found, empty-next, lengths-next, lengths-found, lengths-end}
+use Rattle.theory_spec.specs.Sequences.{Sequence, sequences}
+use Rattle.model_spec.specs.Rules.{sequenceCost}
+use Rattle.model_spec.specs.declared.RuleSet.{RuleSet}
+use Rattle.macros_spec.specs.Composition.{linesOf}
+use Rattle.macros_spec.specs.Redundancy.{covers}
+use Rattle.macros_spec.specs.declared.Vectors.{Vectors}
+use Rattle.tables_spec.specs.Table.{kept}
+use Rattle.pruning_laws.specs.Witnesses.{firstBehind, serves}
+use Rattle.tables_spec.proofs.CountLaws.{count-levels}
+use Rattle.pruning_laws.proofs.WitnessLaws.{serves-last, upTo, empty-found, empty-next, lengths-next, lengths-found, lengths-end}
 use Rattle.pruning.proofs.witnesses.smallest_witness.Statement.{statement}
 use Rattle.pruning.proofs.witnesses.smallest_witness.Tie as tie
 

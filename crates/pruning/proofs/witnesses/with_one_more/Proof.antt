@@ -5,10 +5,10 @@ use mathlib.Core.Option.{some}
 use Prim.Native.Nat.{_≤_, _-_}
 use native.Mathlib.Omega.{arith}
 use borrow.Author.Needs.{needs}
-use Rattle.theory.specs.Sequences.{level}
-use Rattle.pruning.specs.Witnesses.{firstBehind, serves}
-use Rattle.tables.proofs.CountLaws.{count-prefix}
-use Rattle.pruning.proofs.WitnessLaws.{fromRule, from-first, from-end, last-next, last-found}
+use Rattle.theory_spec.specs.Sequences.{level}
+use Rattle.pruning_laws.specs.Witnesses.{firstBehind, serves}
+use Rattle.tables_spec.proofs.CountLaws.{count-prefix}
+use Rattle.pruning_laws.proofs.WitnessLaws.{fromRule, from-first, from-end, last-next, last-found}
 use Rattle.pruning.proofs.witnesses.with_one_more.Statement.{statement}
 use Rattle.pruning.proofs.witnesses.with_one_more.Tie as tie
 

@@ -4,8 +4,8 @@ use native.Mathlib.Omega.{arith}
 use lib.Dec.{ltb}
 use borrow.Author.Tests.{lt-ltb, le-ltb}
 use borrow.Author.Needs.{needs}
-use Rattle.rules.specs.Reading.{constant}
-use Rattle.reader.proofs.FoundLaws.{refused-found, parsed-found, unless-failed, unless-passed, unless-refused}
+use Rattle.files_spec.specs.Reading.{constant}
+use Rattle.reader_laws.proofs.FoundLaws.{refused-found, parsed-found, unless-failed, unless-passed, unless-refused}
 use Rattle.reader.proofs.items.constant.Statement.{statement}
 use Rattle.reader.proofs.items.constant.Tie as tie
 

@@ -6,8 +6,8 @@ use native.Mathlib.Omega.{arith}
 use native.Mathlib.Numerals.{add-one}
 use lib.ListN.{length, drop, drop-of-length-le}
 use borrow.Author.Needs.{needs}
-use Rattle.rules.specs.Reading.{digits, decimalFrom, decimal}
-use Rattle.reader.proofs.ByteLaws.{digits-some}
+use Rattle.files_spec.specs.Reading.{digits, decimalFrom, decimal}
+use Rattle.reader_laws.proofs.ByteLaws.{digits-some}
 use Rattle.reader.proofs.items.decimal_at.Statement.{statement}
 use Rattle.reader.proofs.items.decimal_at.Tie as tie
 

@@ -5,9 +5,9 @@ use mathlib.Core.Path.{_≡_, ap}
 use native.Mathlib.Omega.{arith}
 use lib.ListN.{length, drop}
 use borrow.Author.Needs.{needs}
-use Rattle.model.proofs.LoopLaws.{failed, passed}
-use Rattle.rules.specs.Reading.{digits}
-use Rattle.reader.proofs.ByteLaws.{digits-none, digits-other, digits-more}
+use Rattle.model_spec.proofs.LoopLaws.{failed, passed}
+use Rattle.files_spec.specs.Reading.{digits}
+use Rattle.reader_laws.proofs.ByteLaws.{digits-none, digits-other, digits-more}
 use Rattle.reader.proofs.items.digit_count.Statement.{statement}
 use Rattle.reader.proofs.items.digit_count.Tie as tie
 

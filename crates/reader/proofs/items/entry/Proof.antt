@@ -9,8 +9,8 @@ use lib.ListN.{getD, drop, List·getD-eq-default}
 use lib.Seq.{getD-drop, drop-drop}
 use borrow.Author.Tests.{eq-eqb, ne-eqb}
 use borrow.Author.Needs.{needs}
-use Rattle.rules.specs.File.{variableLetter}
-use Rattle.rules.specs.Reading.{variable, constant, entry}
+use Rattle.files_spec.specs.File.{variableLetter}
+use Rattle.files_spec.specs.Reading.{variable, constant, entry}
 use Rattle.reader.proofs.items.entry.Statement.{statement}
 use Rattle.reader.proofs.items.entry.Tie as tie
 

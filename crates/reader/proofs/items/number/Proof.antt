@@ -8,11 +8,11 @@ use native.Mathlib.Omega.{arith}
 use lib.ListN.{length, getD, drop, length-drop}
 use lib.Seq.{drop-drop}
 use borrow.Author.Needs.{needs}
-use Rattle.model.proofs.LoopLaws.{failed, passed}
-use Rattle.rules.specs.Reading.{refused, parsed, andRead, literal, digits, isNumber, decimal, number}
-use Rattle.rules.proofs.NumberLaws.{digits-length, number-length}
-use Rattle.reader.proofs.FoundLaws.{refused-found, parsed-found}
-use Rattle.reader.proofs.ByteLaws.{word-end, word-cut, word-other, word-more}
+use Rattle.model_spec.proofs.LoopLaws.{failed, passed}
+use Rattle.files_spec.specs.Reading.{refused, parsed, andRead, literal, digits, isNumber, decimal, number}
+use Rattle.files_spec.proofs.NumberLaws.{digits-length, number-length}
+use Rattle.reader_laws.proofs.FoundLaws.{refused-found, parsed-found}
+use Rattle.reader_laws.proofs.ByteLaws.{word-end, word-cut, word-other, word-more}
 use Rattle.reader.proofs.items.number.Statement.{statement}
 use Rattle.reader.proofs.items.number.Tie as tie
 

@@ -2,8 +2,8 @@
 -- Assumes nothing.
 use native.Mathlib.Omega.{arith}
 use borrow.Author.Tests.{le-leb, lt-leb, ne-eqb}
-use Rattle.rules.specs.Reading.{isNumber}
-use Rattle.reader.proofs.ByteLaws.{digits-some}
+use Rattle.files_spec.specs.Reading.{isNumber}
+use Rattle.reader_laws.proofs.ByteLaws.{digits-some}
 use Rattle.reader.proofs.items.number_formed.Statement.{statement}
 use Rattle.reader.proofs.items.number_formed.Tie as tie
 

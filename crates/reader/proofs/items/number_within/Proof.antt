@@ -4,11 +4,11 @@ use native.Mathlib.Omega.{arith}
 use lib.Dec.{leb}
 use borrow.Author.Tests.{lt-leb}
 use borrow.Author.Needs.{needs}
-use Rattle.theory.specs.Lists.{within}
-use Rattle.theory.proofs.TestLaws.{within-iff}
-use Rattle.model.proofs.LoopLaws.{first-fails, second-fails}
-use Rattle.rules.specs.Reading.{numberWithin}
-use Rattle.reader.proofs.FoundLaws.{refused-found, parsed-found, unless-failed, unless-passed, unless-refused}
+use Rattle.theory_spec.specs.Lists.{within}
+use Rattle.theory_spec.proofs.TestLaws.{within-iff}
+use Rattle.model_spec.proofs.LoopLaws.{first-fails, second-fails}
+use Rattle.files_spec.specs.Reading.{numberWithin}
+use Rattle.reader_laws.proofs.FoundLaws.{refused-found, parsed-found, unless-failed, unless-passed, unless-refused}
 use Rattle.reader.proofs.items.number_within.Statement.{statement}
 use Rattle.reader.proofs.items.number_within.Tie as tie
 

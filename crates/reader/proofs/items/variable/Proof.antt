@@ -4,10 +4,10 @@ use Prim.Native.Nat.{_+_}
 use native.Mathlib.Omega.{arith}
 use lib.ListN.{drop}
 use borrow.Author.Needs.{needs}
-use Rattle.theory.specs.Lists.{within}
-use Rattle.theory.proofs.TestLaws.{within-iff}
-use Rattle.rules.specs.Reading.{parsed, number, numberWithin, variable}
-use Rattle.reader.proofs.FoundLaws.{parsed-found, then-refused, then-parsed, unless-value}
+use Rattle.theory_spec.specs.Lists.{within}
+use Rattle.theory_spec.proofs.TestLaws.{within-iff}
+use Rattle.files_spec.specs.Reading.{parsed, number, numberWithin, variable}
+use Rattle.reader_laws.proofs.FoundLaws.{parsed-found, then-refused, then-parsed, unless-value}
 use Rattle.reader.proofs.items.variable.Statement.{statement}
 use Rattle.reader.proofs.items.variable.Tie as tie
 

@@ -5,9 +5,9 @@ use mathlib.Core.Path.{_≡_, refl, sym, _∙_}
 use native.Mathlib.Omega.{arith}
 use lib.ListN.{length, drop}
 use borrow.Author.Needs.{needs}
-use Rattle.rules.specs.Reading.{literal}
-use Rattle.reader.proofs.FoundLaws.{refused-found, parsed-found}
-use Rattle.reader.proofs.ByteLaws.{word-end, word-cut, word-other, word-more}
+use Rattle.files_spec.specs.Reading.{literal}
+use Rattle.reader_laws.proofs.FoundLaws.{refused-found, parsed-found}
+use Rattle.reader_laws.proofs.ByteLaws.{word-end, word-cut, word-other, word-more}
 use Rattle.reader.proofs.items.word.Statement.{statement}
 use Rattle.reader.proofs.items.word.Tie as tie
 

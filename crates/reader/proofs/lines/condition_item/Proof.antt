@@ -2,7 +2,7 @@
 -- Assumes nothing.
 use native.Mathlib.Omega.{arith}
 use borrow.Author.Needs.{needs}
-use Rattle.reader.proofs.PlacementLaws.{condition-at, entry-refused, entry-misplaced, entry-placed}
+use Rattle.reader_laws.proofs.PlacementLaws.{condition-at, entry-refused, entry-misplaced, entry-placed}
 use Rattle.reader.proofs.lines.condition_item.Statement.{statement}
 use Rattle.reader.proofs.lines.condition_item.Tie as tie
 

@@ -4,9 +4,9 @@ use mathlib.Core.Path.{sym}
 use Prim.Native.Nat.{_-_}
 use lib.ListN.{drop}
 use borrow.Author.Needs.{needs}
-use Rattle.rules.specs.Reading.{conditionItem, itemsAfter, listLine}
-use Rattle.reader.proofs.FoundLaws.{then-refused, then-parsed}
-use Rattle.reader.proofs.ReadLoopLaws.{SoFar, items-list, fill-start, fill-go, fill-stop, fill-end}
+use Rattle.files_spec.specs.Reading.{conditionItem, itemsAfter, listLine}
+use Rattle.reader_laws.proofs.FoundLaws.{then-refused, then-parsed}
+use Rattle.reader_laws.proofs.ReadLoopLaws.{SoFar, items-list, fill-start, fill-go, fill-stop, fill-end}
 use Rattle.reader.proofs.lines.condition_line.Statement.{statement}
 use Rattle.reader.proofs.lines.condition_line.Tie as tie
 

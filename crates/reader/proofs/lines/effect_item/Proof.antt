@@ -1,7 +1,7 @@
 -- `reader::lines::effect_item` meets its contract: an entry, judged for its place.
 -- Assumes nothing.
 use borrow.Author.Needs.{needs}
-use Rattle.reader.proofs.PlacementLaws.{effect-at, entry-refused, entry-misplaced, entry-placed}
+use Rattle.reader_laws.proofs.PlacementLaws.{effect-at, entry-refused, entry-misplaced, entry-placed}
 use Rattle.reader.proofs.lines.effect_item.Statement.{statement}
 use Rattle.reader.proofs.lines.effect_item.Tie as tie
 

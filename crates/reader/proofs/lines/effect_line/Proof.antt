@@ -5,9 +5,9 @@ use Prim.Native.Nat.{_-_}
 use lib.ListN.{take, drop}
 use lib.Seq.{length-take-le}
 use borrow.Author.Needs.{needs}
-use Rattle.rules.specs.Reading.{effectItem, itemsAfter, listLine}
-use Rattle.reader.proofs.FoundLaws.{then-refused, then-parsed}
-use Rattle.reader.proofs.ReadLoopLaws.{SoFar, items-list, fill-start, fill-go, fill-stop, fill-end}
+use Rattle.files_spec.specs.Reading.{effectItem, itemsAfter, listLine}
+use Rattle.reader_laws.proofs.FoundLaws.{then-refused, then-parsed}
+use Rattle.reader_laws.proofs.ReadLoopLaws.{SoFar, items-list, fill-start, fill-go, fill-stop, fill-end}
 use Rattle.reader.proofs.lines.effect_line.Statement.{statement}
 use Rattle.reader.proofs.lines.effect_line.Tie as tie
 

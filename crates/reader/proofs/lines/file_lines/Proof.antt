@@ -2,9 +2,9 @@
 -- Assumes nothing.
 use mathlib.Core.Path.{_∙_}
 use borrow.Author.Needs.{needs}
-use Rattle.rules.specs.Reading.{numberLine, fileLines}
-use Rattle.reader.proofs.FoundLaws.{found-parsed, parsed-found, then-refused, then-parsed}
-use Rattle.rules.proofs.LineLaws.{number-line-read}
+use Rattle.files_spec.specs.Reading.{numberLine, fileLines}
+use Rattle.reader_laws.proofs.FoundLaws.{found-parsed, parsed-found, then-refused, then-parsed}
+use Rattle.files_spec.proofs.LineLaws.{number-line-read}
 use Rattle.reader.proofs.lines.file_lines.Statement.{statement}
 use Rattle.reader.proofs.lines.file_lines.Tie as tie
 

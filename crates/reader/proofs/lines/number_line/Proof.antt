@@ -2,7 +2,7 @@
 -- Assumes nothing.
 use mathlib.Core.Path.{_∙_}
 use borrow.Author.Needs.{needs}
-use Rattle.reader.proofs.FoundLaws.{then-refused, then-parsed}
+use Rattle.reader_laws.proofs.FoundLaws.{then-refused, then-parsed}
 use Rattle.reader.proofs.lines.number_line.Statement.{statement}
 use Rattle.reader.proofs.lines.number_line.Tie as tie
 

@@ -2,8 +2,8 @@
 -- Assumes nothing.
 use mathlib.Core.Path.{_∙_}
 use borrow.Author.Needs.{needs}
-use Rattle.rules.specs.Reading.{numberLine, ruleLines}
-use Rattle.reader.proofs.FoundLaws.{parsed-found, then-refused, then-parsed}
+use Rattle.files_spec.specs.Reading.{numberLine, ruleLines}
+use Rattle.reader_laws.proofs.FoundLaws.{parsed-found, then-refused, then-parsed}
 use Rattle.reader.proofs.lines.rule_lines.Statement.{statement}
 use Rattle.reader.proofs.lines.rule_lines.Tie as tie
 

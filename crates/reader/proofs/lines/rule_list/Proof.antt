@@ -4,9 +4,9 @@ use mathlib.Core.Path.{refl}
 use Prim.Native.Nat.{_-_}
 use lib.ListN.{drop}
 use borrow.Author.Needs.{needs}
-use Rattle.model.specs.Rules.{blankRule}
-use Rattle.rules.specs.Reading.{rulesAfter, ruleList}
-use Rattle.reader.proofs.ReadLoopLaws.{SoFar, rules-list, fill-start, fill-go, fill-stop, fill-end}
+use Rattle.model_spec.specs.Rules.{blankRule}
+use Rattle.files_spec.specs.Reading.{rulesAfter, ruleList}
+use Rattle.reader_laws.proofs.ReadLoopLaws.{SoFar, rules-list, fill-start, fill-go, fill-stop, fill-end}
 use Rattle.reader.proofs.lines.rule_list.Statement.{statement}
 use Rattle.reader.proofs.lines.rule_list.Tie as tie
 

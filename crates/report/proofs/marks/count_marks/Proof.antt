@@ -5,8 +5,8 @@ use mathlib.Core.Logic.{⊎-elim}
 use Prim.Native.Nat.{_+_, _-_, _/_, _≤_}
 use native.Mathlib.Omega.{arith}
 use lib.ListN.{length}
-use Rattle.report.specs.Marks.{tableMarks}
-use Rattle.report.proofs.MarkLoopLaws.{marksFrom, marks-all, marks-more, marks-next, marks-end}
+use Rattle.report_spec.specs.Marks.{tableMarks}
+use Rattle.report_spec.proofs.MarkLoopLaws.{marksFrom, marks-all, marks-more, marks-next, marks-end}
 use Rattle.report.proofs.marks.count_marks.Statement.{statement}
 use Rattle.report.proofs.marks.count_marks.Tie as tie
 

@@ -4,7 +4,7 @@ use mathlib.Core.Path.{refl}
 use Prim.Native.Nat.{_+_, _*_}
 use native.Mathlib.Omega.{arith}
 use borrow.Author.Needs.{needs}
-use Rattle.tables.specs.Table.{entryAt}
+use Rattle.tables_spec.specs.Table.{entryAt}
 use Rattle.report.proofs.marks.entry_at.Statement.{statement}
 use Rattle.report.proofs.marks.entry_at.Tie as tie
 

@@ -2,9 +2,9 @@
 -- Assumes nothing.
 use native.Mathlib.Omega.{arith}
 use borrow.Author.Needs.{needs}
-use Rattle.writer.proofs.OverlayLaws.{laid-append}
-use Rattle.report.proofs.OverlayLaws.{laid-none}
-use Rattle.report.proofs.MarkLoopLaws.{entry-kept, entry-marked, entry-length}
+use Rattle.output_laws.proofs.OverlayLaws.{laid-append}
+use Rattle.report_spec.proofs.OverlayLaws.{laid-none}
+use Rattle.report_spec.proofs.MarkLoopLaws.{entry-kept, entry-marked, entry-length}
 use Rattle.report.proofs.marks.put_entry.Statement.{statement}
 use Rattle.report.proofs.marks.put_entry.Tie as tie
 

@@ -4,9 +4,9 @@ use mathlib.Core.Path.{sym, ap, _∙_, subst}
 use Prim.Native.Nat.{_-_, _/_, _≤_, _<_}
 use native.Mathlib.Omega.{arith}
 use lib.ListN.{length, length-append}
-use Rattle.writer.proofs.OverlayLaws.{Remains, remains-all, remains-length, remains-none, remains-rest}
-use Rattle.report.specs.Marks.{marksText}
-use Rattle.report.proofs.MarkLoopLaws.{linesFrom, lines-all, lines-more, lines-end}
+use Rattle.output_laws.proofs.OverlayLaws.{Remains, remains-all, remains-length, remains-none, remains-rest}
+use Rattle.report_spec.specs.Marks.{marksText}
+use Rattle.report_spec.proofs.MarkLoopLaws.{linesFrom, lines-all, lines-more, lines-end}
 use Rattle.report.proofs.marks.put_marks.Statement.{statement}
 use Rattle.report.proofs.marks.put_marks.Tie as tie
 

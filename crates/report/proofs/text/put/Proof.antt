@@ -2,7 +2,7 @@
 -- Assumes nothing.
 use mathlib.Core.Logic.{⊎-elim}
 use borrow.Author.Needs.{needs}
-use Rattle.writer.proofs.OverlayLaws.{laid-within, laid-past, laid-length}
+use Rattle.output_laws.proofs.OverlayLaws.{laid-within, laid-past, laid-length}
 use Rattle.report.proofs.text.put.Statement.{statement}
 use Rattle.report.proofs.text.put.Tie as tie
 

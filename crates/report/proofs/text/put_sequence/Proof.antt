@@ -6,9 +6,9 @@ use native.Mathlib.Nat.{mod-lt}
 use native.Mathlib.Omega.{arith}
 use lib.ListN.{length, length-append}
 use borrow.Author.Needs.{needs}
-use Rattle.writer.proofs.OverlayLaws.{laid-append}
-use Rattle.report.proofs.OverlayLaws.{laid-none}
-use Rattle.report.proofs.SequenceTextLaws.{text-none, text-one, first-rule, text-two}
+use Rattle.output_laws.proofs.OverlayLaws.{laid-append}
+use Rattle.report_spec.proofs.OverlayLaws.{laid-none}
+use Rattle.report_spec.proofs.SequenceTextLaws.{text-none, text-one, first-rule, text-two}
 use Rattle.report.proofs.text.put_sequence.Statement.{statement}
 use Rattle.report.proofs.text.put_sequence.Tie as tie
 

@@ -7,8 +7,8 @@ use Prim.Native.Nat.{ℕ, _-_, _≤_}
 use native.Mathlib.Omega.{arith}
 use lib.Dec.{eqb}
 use lib.ListN.{length, getD, length-set}
-use Rattle.tables.specs.Table.{kept, entryAt}
-use Rattle.search.proofs.LookupLaws.{LooksUpTo, look-up-start, look-up-more}
+use Rattle.tables_spec.specs.Table.{kept, entryAt}
+use Rattle.search_laws.proofs.LookupLaws.{LooksUpTo, look-up-start, look-up-more}
 use Rattle.search.proofs.lookup.fill_lookup.Statement.{statement}
 use Rattle.search.proofs.lookup.fill_lookup.Tie as tie
 

@@ -5,7 +5,7 @@ use Prim.Native.Nat.{_-_, _*_, _+_}
 use native.Mathlib.Omega.{arith}
 use lib.ListN.{getD, take}
 use borrow.Author.Needs.{needs}
-use Rattle.search.proofs.LookupLaws.{last-none, last-empty, last-one, last-two, places-small, place-fits}
+use Rattle.search_laws.proofs.LookupLaws.{last-none, last-empty, last-one, last-two, places-small, place-fits}
 use Rattle.search.proofs.lookup.first_place.Statement.{statement}
 use Rattle.search.proofs.lookup.first_place.Tie as tie
 

@@ -3,7 +3,7 @@
 use Prim.Native.Nat.{_*_}
 use native.Mathlib.Omega.{arith}
 use borrow.Author.Needs.{needs}
-use Rattle.search.proofs.LookupLaws.{mark-low, mark-high}
+use Rattle.search_laws.proofs.LookupLaws.{mark-low, mark-high}
 use Rattle.search.proofs.lookup.is_mark.Statement.{statement}
 use Rattle.search.proofs.lookup.is_mark.Tie as tie
 

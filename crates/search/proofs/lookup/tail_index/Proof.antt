@@ -4,7 +4,7 @@ use Prim.Native.Nat.{_-_, _/_}
 use native.Mathlib.Nat.{mod-lt, mul-le-mul}
 use native.Mathlib.Omega.{arith}
 use borrow.Author.Needs.{needs}
-use Rattle.search.proofs.LookupLaws.{tail-none, tail-one, tail-two}
+use Rattle.search_laws.proofs.LookupLaws.{tail-none, tail-one, tail-two}
 use Rattle.search.proofs.lookup.tail_index.Statement.{statement}
 use Rattle.search.proofs.lookup.tail_index.Tie as tie
 

@@ -10,11 +10,11 @@ use borrow.Fn.Kinds.{In}
 use borrow.Fn.PlainCycle.{Measures, is, falls, and}
 use lib.ListN.{take, set}
 use lib.Seq.{set-set}
-use Rattle.theory.specs.Lists.{padded}
-use Rattle.tables.proofs.CountLaws.{count-bound}
-use Rattle.queries.specs.Searched.{noMove}
-use Rattle.search.proofs.PlanArrayLaws.{plan-more}
-use Rattle.search.proofs.VisitLoopLaws.{goes-within, restFrom, visits-last, whole, whole-exceeded, loop-end, turn-taken, turn-left, plan-next, reached-next}
+use Rattle.theory_spec.specs.Lists.{padded}
+use Rattle.tables_spec.proofs.CountLaws.{count-bound}
+use Rattle.search_spec.specs.Searched.{noMove}
+use Rattle.search_laws.proofs.PlanArrayLaws.{plan-more}
+use Rattle.search_laws.proofs.VisitLoopLaws.{goes-within, restFrom, visits-last, whole, whole-exceeded, loop-end, turn-taken, turn-left, plan-next, reached-next}
 use Rattle.search.proofs.lookup.first_place.Reads as first-place-reads
 use Rattle.search.proofs.visits.goes_on.Reads as goes-on-reads
 use Rattle.search.proofs.visits.noted.Reads as noted-reads

@@ -4,7 +4,7 @@ use mathlib.Core.Path.{sym, _∙_}
 use lib.Dec.{leb}
 use borrow.Author.Needs.{needs}
 use borrow.Author.Tests.{lt-leb, le-leb, eq-eqb, ne-eqb}
-use Rattle.model.proofs.LoopLaws.{first-fails, second-fails}
+use Rattle.model_spec.proofs.LoopLaws.{first-fails, second-fails}
 use Rattle.search.proofs.visits.goes_on.Statement.{statement}
 use Rattle.search.proofs.visits.goes_on.Tie as tie
 

@@ -9,10 +9,10 @@ use lib.Dec.{eqb}
 use lib.ListN.{length, getD}
 use borrow.Author.Needs.{needs}
 use borrow.Author.Tests.{eq-eqb, ne-eqb}
-use Rattle.theory.specs.Lists.{every, numbersFrom}
-use Rattle.theory.proofs.ListLaws.{or-left, or-right}
-use Rattle.model.proofs.LoopLaws.{every-go, every-stop, every-end}
-use Rattle.queries.specs.Query.{meetsGoal}
+use Rattle.theory_spec.specs.Lists.{every, numbersFrom}
+use Rattle.theory_spec.proofs.ListLaws.{or-left, or-right}
+use Rattle.model_spec.proofs.LoopLaws.{every-go, every-stop, every-end}
+use Rattle.search_spec.specs.Query.{meetsGoal}
 use Rattle.search.proofs.visits.meets_goal.Statement.{statement}
 use Rattle.search.proofs.visits.meets_goal.Tie as tie
 

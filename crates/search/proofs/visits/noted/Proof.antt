@@ -5,9 +5,9 @@ use mathlib.Core.Bool.{false}
 use Prim.Native.Nat.{_+_}
 use borrow.Author.Needs.{needs}
 use borrow.Author.Tests.{lt-ltb, le-ltb}
-use Rattle.queries.specs.Searched.{noMove}
-use Rattle.search.specs.Visits.{replaces, bestAt, noted}
-use Rattle.search.proofs.PlanArrayLaws.{plan-moves, plan-best}
+use Rattle.search_spec.specs.Searched.{noMove}
+use Rattle.search_laws.specs.Visits.{replaces, bestAt, noted}
+use Rattle.search_laws.proofs.PlanArrayLaws.{plan-moves, plan-best}
 use Rattle.search.proofs.visits.noted.Statement.{statement}
 use Rattle.search.proofs.visits.noted.Tie as tie
 

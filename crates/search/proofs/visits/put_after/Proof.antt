@@ -5,10 +5,10 @@ use Prim.Native.Nat.{_≤_, _-_}
 use native.Mathlib.Omega.{arith}
 use lib.ListN.{length, replicate}
 use borrow.Author.Needs.{needs}
-use Rattle.model.specs.States.{successor}
-use Rattle.model.proofs.StateLaws.{successor-at, successor-length}
-use Rattle.search.proofs.CopyLaws.{copied, copied-more}
-use Rattle.search.proofs.StateLoopLaws.{copied-rest, successor-zeros}
+use Rattle.model_spec.specs.States.{successor}
+use Rattle.model_spec.proofs.StateLaws.{successor-at, successor-length}
+use Rattle.search_laws.proofs.CopyLaws.{copied, copied-more}
+use Rattle.search_laws.proofs.StateLoopLaws.{copied-rest, successor-zeros}
 use Rattle.search.proofs.visits.put_after.Statement.{statement}
 use Rattle.search.proofs.visits.put_after.Tie as tie
 

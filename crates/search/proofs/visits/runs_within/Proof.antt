@@ -6,11 +6,11 @@ use native.Mathlib.Omega.{arith}
 use mathlib.Core.List.{map}
 use lib.ListN.{drop}
 use borrow.Author.Needs.{needs}
-use Rattle.theory.specs.Lists.{same}
-use Rattle.model.specs.States.{valueOf, valuesOf, applicable}
-use Rattle.model.proofs.StateLaws.{value-constant}
-use Rattle.model.proofs.LoopLaws.{same-go, same-stop}
-use Rattle.search.proofs.StateLoopLaws.{same-rest}
+use Rattle.theory_spec.specs.Lists.{same}
+use Rattle.model_spec.specs.States.{valueOf, valuesOf, applicable}
+use Rattle.model_spec.proofs.StateLaws.{value-constant}
+use Rattle.model_spec.proofs.LoopLaws.{same-go, same-stop}
+use Rattle.search_laws.proofs.StateLoopLaws.{same-rest}
 use Rattle.search.proofs.visits.runs_within.Statement.{statement}
 use Rattle.search.proofs.visits.runs_within.Tie as tie
 

@@ -5,11 +5,11 @@ use Prim.Native.Nat.{_-_, _≤_}
 use native.Mathlib.Omega.{arith}
 use lib.Seq.{slice}
 use borrow.Author.Needs.{needs}
-use Rattle.rules.specs.File.{entryText}
-use Rattle.writer.specs.Overlay.{listText}
-use Rattle.rules.proofs.TextLaws.{ended}
-use Rattle.writer.proofs.OverlayLaws.{Remains, remains-all, remains-length, remains-none}
-use Rattle.writer.proofs.WriteLoopLaws.{ended-all, ended-length, ended-rest, ended-none}
+use Rattle.files_spec.specs.File.{entryText}
+use Rattle.output_laws.specs.Overlay.{listText}
+use Rattle.files_spec.proofs.TextLaws.{ended}
+use Rattle.output_laws.proofs.OverlayLaws.{Remains, remains-all, remains-length, remains-none}
+use Rattle.output_laws.proofs.WriteLoopLaws.{ended-all, ended-length, ended-rest, ended-none}
 use Rattle.writer.proofs.output.put_entries.Statement.{statement}
 use Rattle.writer.proofs.output.put_entries.Tie as tie
 

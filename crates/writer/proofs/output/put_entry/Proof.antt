@@ -4,8 +4,8 @@ use mathlib.Core.Path.{ap}
 use native.Mathlib.Omega.{arith}
 use lib.ListN.{length}
 use borrow.Author.Needs.{needs}
-use Rattle.rules.proofs.TextLaws.{constant-text, variable-text}
-use Rattle.writer.proofs.OverlayLaws.{laid-append}
+use Rattle.files_spec.proofs.TextLaws.{constant-text, variable-text}
+use Rattle.output_laws.proofs.OverlayLaws.{laid-append}
 use Rattle.writer.proofs.output.put_entry.Statement.{statement}
 use Rattle.writer.proofs.output.put_entry.Tie as tie
 

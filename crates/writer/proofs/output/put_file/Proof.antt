@@ -6,13 +6,13 @@ use Prim.Native.Nat.{ℕ, _+_}
 use native.Mathlib.Omega.{arith}
 use lib.ListN.{length, take, length-append}
 use borrow.Author.Needs.{needs}
-use Rattle.theory.specs.Lists.{flat}
-use Rattle.model.specs.declared.RuleSet.{RuleSet}
-use Rattle.rules.specs.Text.{bytes, lineFeed, numeral, line}
-use Rattle.rules.specs.File.{ruleText, render}
-use Rattle.writer.specs.Overlay.{listText}
-use Rattle.writer.proofs.OverlayLaws.{laid-append}
-use Rattle.writer.proofs.WriteLoopLaws.{list-line}
+use Rattle.theory_spec.specs.Lists.{flat}
+use Rattle.model_spec.specs.declared.RuleSet.{RuleSet}
+use Rattle.files_spec.specs.Text.{bytes, lineFeed, numeral, line}
+use Rattle.files_spec.specs.File.{ruleText, render}
+use Rattle.output_laws.specs.Overlay.{listText}
+use Rattle.output_laws.proofs.OverlayLaws.{laid-append}
+use Rattle.output_laws.proofs.WriteLoopLaws.{list-line}
 use Rattle.writer.proofs.output.put_file.Statement.{statement}
 use Rattle.writer.proofs.output.put_file.Tie as tie
 

@@ -4,8 +4,8 @@ use mathlib.Core.Path.{ap}
 use native.Mathlib.Omega.{arith}
 use lib.ListN.{length}
 use borrow.Author.Needs.{needs}
-use Rattle.rules.proofs.TextLaws.{numeral-one, numeral-two, numeral-three}
-use Rattle.writer.proofs.OverlayLaws.{laid-append}
+use Rattle.files_spec.proofs.TextLaws.{numeral-one, numeral-two, numeral-three}
+use Rattle.output_laws.proofs.OverlayLaws.{laid-append}
 use Rattle.writer.proofs.output.put_number.Statement.{statement}
 use Rattle.writer.proofs.output.put_number.Tie as tie
 

@@ -3,7 +3,7 @@
 use native.Mathlib.Omega.{arith}
 use borrow.Author.Needs.{needs}
 use lib.ListN.{length-append}
-use Rattle.writer.proofs.OverlayLaws.{laid-append}
+use Rattle.output_laws.proofs.OverlayLaws.{laid-append}
 use Rattle.writer.proofs.output.put_number_line.Statement.{statement}
 use Rattle.writer.proofs.output.put_number_line.Tie as tie
 

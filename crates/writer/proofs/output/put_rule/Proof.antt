@@ -6,12 +6,12 @@ use Prim.Native.Nat.{ℕ, _+_}
 use native.Mathlib.Omega.{arith}
 use lib.ListN.{length, length-append}
 use borrow.Author.Needs.{needs}
-use Rattle.model.specs.declared.Rule.{Rule}
-use Rattle.rules.specs.Text.{bytes, lineFeed, numeral, line}
-use Rattle.rules.specs.File.{entryText, ruleText}
-use Rattle.writer.specs.Overlay.{listText}
-use Rattle.writer.proofs.OverlayLaws.{laid-append}
-use Rattle.writer.proofs.WriteLoopLaws.{list-line}
+use Rattle.model_spec.specs.declared.Rule.{Rule}
+use Rattle.files_spec.specs.Text.{bytes, lineFeed, numeral, line}
+use Rattle.files_spec.specs.File.{entryText, ruleText}
+use Rattle.output_laws.specs.Overlay.{listText}
+use Rattle.output_laws.proofs.OverlayLaws.{laid-append}
+use Rattle.output_laws.proofs.WriteLoopLaws.{list-line}
 use Rattle.writer.proofs.output.put_rule.Statement.{statement}
 use Rattle.writer.proofs.output.put_rule.Tie as tie
 

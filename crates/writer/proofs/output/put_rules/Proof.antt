@@ -7,13 +7,13 @@ use native.Mathlib.Omega.{arith}
 use lib.ListN.{length, getD, length-append}
 use lib.Seq.{slice}
 use borrow.Author.Needs.{needs}
-use Rattle.theory.specs.Lists.{flat}
-use Rattle.model.specs.Rules.{noRule}
-use Rattle.model.specs.declared.RuleSet.{RuleSet}
-use Rattle.model.proofs.Shapes.{rules-31}
-use Rattle.rules.specs.File.{ruleText}
-use Rattle.writer.proofs.OverlayLaws.{Remains, remains-all, remains-length, remains-none, remains-rest}
-use Rattle.writer.proofs.WriteLoopLaws.{slice-more, slice-none}
+use Rattle.theory_spec.specs.Lists.{flat}
+use Rattle.model_spec.specs.Rules.{noRule}
+use Rattle.model_spec.specs.declared.RuleSet.{RuleSet}
+use Rattle.model_spec.proofs.Shapes.{rules-31}
+use Rattle.files_spec.specs.File.{ruleText}
+use Rattle.output_laws.proofs.OverlayLaws.{Remains, remains-all, remains-length, remains-none, remains-rest}
+use Rattle.output_laws.proofs.WriteLoopLaws.{slice-more, slice-none}
 use Rattle.writer.proofs.output.put_rules.Statement.{statement}
 use Rattle.writer.proofs.output.put_rules.Tie as tie
 

@@ -8,7 +8,7 @@ use native.Mathlib.Omega.{arith}
 use lib.ListN.{length, getD, drop, drop-of-length-le}
 use lib.Seq.{drop-cons}
 use borrow.Author.Needs.{needs}
-use Rattle.writer.proofs.OverlayLaws.{Remains, remains-all, remains-length, remains-none, remains-rest}
+use Rattle.output_laws.proofs.OverlayLaws.{Remains, remains-all, remains-length, remains-none, remains-rest}
 use Rattle.writer.proofs.output.put_word.Statement.{statement}
 use Rattle.writer.proofs.output.put_word.Tie as tie
 

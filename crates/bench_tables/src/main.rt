@@ -1,0 +1,151 @@
+// Builds the table of a rule file for reach 3, checks it, and prints what it holds. Standard input is a line with two numbers and a space between, how often to build and how often to
+// check, and then the file. Of a refused file the program prints the outcome alone.
+// `bench/run` times it beside the plain comparison of all macros in Rust.
+use libc::STDIN_FILENO;
+use libc::STDOUT_FILENO;
+use model_spec::RuleSet;
+use std::num::wrapping_add_u64;
+ghost use Prim.Native.Nat.{_+_, _*_, _≤_};
+ghost use lib.ListN.{length};
+
+// A number at the start of a text, and how many bytes its digits take with the byte that ends them.
+struct Number {
+    value: u32,
+    size: usize,
+}
+
+// What is counted of a table: its marks, the sum of its entries, and the sum of that sum after each entry, which tells the order.
+struct Totals {
+    marks: u64,
+    sum: u64,
+    sums: u64,
+}
+
+// A number with one digit more; of a long number the last six digits count.
+fn with_digit(value: u32, digit: u8) -> u32 {
+    10 * (value % 100000) + (digit % 16) as u32
+}
+
+fn leading_number(text: &[u8]) -> Number
+    ensures { λ r. ⌜ r .size ≤ length (now (text .entry)) ⌝ }
+{
+    let mut value: u32 = 0;
+    let mut i: usize = 0;
+    while i < text.len() {
+        let byte = text[i];
+        i += 1;
+        if byte < b'0' {
+            return Number { value, size: i };
+        }
+        value = with_digit(value, byte);
+    }
+    Number { value, size: i }
+}
+
+// How many sequences there are: the empty one, and each of `shorter` sequences with one more rule.
+fn longer(shorter: usize, count: u8) -> usize
+    requires { ⌜ (shorter ≤ 993) × (count ≤ 31) ⌝ }
+    ensures { λ r. ⌜ r ≤ 31 * shorter + 1 ⌝ }
+{
+    shorter * (count as usize) + 1
+}
+
+// How many sequences of at most three rules there are; no rule file has more than 31 rules.
+fn sequences(count: u8) -> usize
+    ensures { λ r. ⌜ r ≤ 30784 ⌝ }
+{
+    if 31 < count {
+        return 0;
+    }
+    let one = longer(1, count);
+    let two = longer(one, count);
+    longer(two, count)
+}
+
+// The totals with an entry, by its two bytes.
+fn with_entry(totals: Totals, low: u8, high: u8) -> Totals {
+    let entry = low as u64 + 256 * (high as u64);
+    let mut counted = totals;
+    if entry != 65535 {
+        counted.marks = wrapping_add_u64(counted.marks, 1);
+    }
+    counted.sum = wrapping_add_u64(counted.sum, entry);
+    counted.sums = wrapping_add_u64(counted.sums, counted.sum);
+    counted
+}
+
+fn totals_of(table: &[u8]) -> Totals {
+    let mut totals = Totals {
+        marks: 0,
+        sum: 0,
+        sums: 0,
+    };
+    for i in 0..table.len() / 2 {
+        totals = with_entry(totals, table[2 * i], table[2 * i + 1]);
+    }
+    totals
+}
+
+// Builds the table so many times; gives how many of the builds were not refused.
+fn build(set: RuleSet, table: &mut [u8], times: u32) -> u64 {
+    let mut built: u64 = 0;
+    for _ in 0..times {
+        if pruning::build_table(set, 3, table) == 0 {
+            built = wrapping_add_u64(built, 1);
+        }
+    }
+    built
+}
+
+// Checks the table so many times; gives how often it was accepted.
+fn check(set: RuleSet, table: &[u8], times: u32) -> u64 {
+    let mut accepted: u64 = 0;
+    for _ in 0..times {
+        if pruning::check_table(set, 3, table) == 0 {
+            accepted = wrapping_add_u64(accepted, 1);
+        }
+    }
+    accepted
+}
+
+fn print(label: &[u8], number: u64) {
+    io::write_all(STDOUT_FILENO, label);
+    io::print_decimal(STDOUT_FILENO, number);
+    io::write_all(STDOUT_FILENO, b"\n");
+}
+
+// Builds and checks the table of a rule set.
+fn run(set: RuleSet, builds: u32, checks: u32) {
+    let mut space = [0u8; 61568];
+    let entries = sequences(set.count);
+    let table = &mut space[0..2 * entries];
+    let built = build(set, table, builds);
+    let accepted = check(set, table, checks);
+    let totals = totals_of(table);
+    print(b"entries=", entries as u64);
+    print(b"marks=", totals.marks);
+    print(b"sum=", totals.sum);
+    print(b"sums=", totals.sums);
+    print(b"built=", built);
+    print(b"accepted=", accepted);
+}
+
+// Reads the two numbers and the file.
+fn read(input: &[u8]) {
+    let builds = leading_number(input);
+    let after_first = builds.size;
+    let rest = &input[after_first..];
+    let checks = leading_number(rest);
+    let after_second = checks.size;
+    let reading = reader::read(&rest[after_second..]);
+    print(b"outcome=", reading.outcome as u64);
+    if reading.outcome == 0 {
+        run(reading.set, builds.value, checks.value);
+    }
+}
+
+fn main() {
+    let mut input = io::large_buffer();
+    let n = io::read_full(STDIN_FILENO, &mut input);
+    read(&input[..n]);
+}

@@ -1,0 +1,79 @@
+-- `cases_macros::parse` meets its contract. The invariant: the buffer keeps its length, and the last number stands in it or just after it. Each turn leaves one byte fewer.
+-- Assumes nothing.
+use mathlib.Core.Path.{_≡_}
+use mathlib.Core.Logic.{⊎-elim}
+use Prim.Native.Nat.{_≤_, _-_}
+use native.Mathlib.Omega.{arith}
+use lib.ListN.{length}
+use borrow.Author.Needs.{needs}
+use Rattle.cases_macros.proofs.parse.Statement.{statement}
+use Rattle.cases_macros.proofs.parse.Tie as tie
+
+abbrev Inv-loop : tie.InvT-loop
+Inv-loop text numbers₀ last₀ i₀ numbers last i = (length numbers ≡ length numbers₀) × (last ≤ length numbers₀)
+
+abbrev μ-loop : tie.MeasureT-loop
+μ-loop text numbers₀ last₀ i₀ numbers last i = length text - i
+
+loop-holds : tie.Need-loop-holds Inv-loop μ-loop
+loop-holds c = search needs
+
+add-result : tie.Need-add-result Inv-loop μ-loop
+add-result c = search needs
+
+same-length : tie.Need-same-length Inv-loop μ-loop
+same-length c = search needs
+
+returns : tie.Need-returns Inv-loop μ-loop
+returns c = search needs
+
+shared-slice-read-byte : tie.Need-shared-slice-read-byte Inv-loop μ-loop
+shared-slice-read-byte c = search needs
+
+slice-read-with-byte : tie.Need-slice-read-with-byte Inv-loop μ-loop
+slice-read-with-byte c = search needs
+
+with-byte-requires : tie.Need-with-byte-requires Inv-loop μ-loop
+with-byte-requires c κs = search needs
+
+slice-write-numbers : tie.Need-slice-write-numbers Inv-loop μ-loop
+slice-write-numbers c = search needs
+
+add-last : tie.Need-add-last Inv-loop μ-loop
+add-last c = search needs
+
+add-i : tie.Need-add-i Inv-loop μ-loop
+add-i c = search needs
+
+loop-less : tie.Need-loop-less Inv-loop μ-loop
+loop-less c = search needs
+
+loop-again : tie.Need-loop-again Inv-loop μ-loop
+loop-again c = (search needs, ⊎-elim (λ w. omega arith) (λ w. omega arith) (c .if2 .came))
+
+same-length-2 : tie.Need-same-length-2 Inv-loop μ-loop
+same-length-2 c = search needs
+
+returns-2 : tie.Need-returns-2 Inv-loop μ-loop
+returns-2 c = search needs
+
+pub parse-spec : {M : Type 1} → statement M
+parse-spec =
+    tie.close
+    (tie.spec
+    Inv-loop
+    μ-loop
+    loop-holds
+    add-result
+    same-length
+    returns
+    shared-slice-read-byte
+    slice-read-with-byte
+    with-byte-requires
+    slice-write-numbers
+    add-last
+    add-i
+    loop-less
+    loop-again
+    same-length-2
+    returns-2)

@@ -1,0 +1,104 @@
+-- The macro call's five answers: which one each cause in turn has, and what is known where it is given.
+-- Assumes nothing.
+use mathlib.Core.Path.{_≡_, refl, ap, _∙_}
+use mathlib.Core.Bool.{Bool, true, false, not}
+use mathlib.Core.Option.{Option, some, none}
+use Prim.Native.Nat.{_≤_, _<_}
+use lib.Dec.{ltb}
+use lib.ListN.{length}
+use borrow.Author.Tests.{ltb-true, ltb-false, lt-ltb, le-ltb}
+use Rattle.theory_spec.specs.Lists.{any, within, isSome}
+use Rattle.theory_spec.specs.Sequences.{Sequence, Numbered}
+use Rattle.theory_spec.proofs.ListLaws.{not-both}
+use Rattle.model_spec.specs.Refusals.{firstRefusal}
+use Rattle.model_spec.specs.Rules.{sequenceCost, admitted}
+use Rattle.model_spec.specs.Validity.{valid, WellFormed, Valid}
+use Rattle.model_spec.specs.declared.RuleSet.{RuleSet}
+use Rattle.model_spec.proofs.ValidityLaws.{valid-iff}
+use Rattle.macros_spec.specs.Composition.{Lines, composed}
+use Rattle.macros_spec.specs.Answers.{sequenceCauses, macroCauses, blankMacro, macroAt, macroWith, macroAnswer, Judged}
+use Rattle.macros_spec.specs.declared.MacroAnswer.{MacroAnswer}
+use Rattle.macros_spec.proofs.MoveLaws.{no-unknown-iff}
+use Rattle.macros_spec.proofs.MeaningLaws.{admitted-composed}
+
+module _ (set : RuleSet) (moves : Sequence) where
+  -- ── The answer to each cause ───────────────────────────────────────────────────────────────────
+
+  pub answer-invalid : valid set ≡ false → macroAnswer set moves ≡ record { outcome = 7; result = blankMacro }
+  unfolding macroAnswer macroCauses
+  answer-invalid e = rw e
+
+  -- once the set is judged
+  abbrev pub worked : MacroAnswer
+  worked = macroWith set moves (firstRefusal (sequenceCauses set moves))
+
+  pub answer-judged : valid set ≡ true → macroAnswer set moves ≡ worked
+  unfolding macroAnswer macroCauses
+  answer-judged isValid = rw isValid
+
+  pub worked-long : 32 < length moves → worked ≡ record { outcome = 11; result = blankMacro }
+  worked-long h = rw (lt-ltb 32 (length moves) h)
+
+  module _ (few : length moves ≤ 32) where
+    pub worked-unknown : any (λ r. not (within 1 (set .count) r)) moves ≡ true → worked ≡ record { outcome = 13; result = blankMacro }
+    worked-unknown e = rw (le-ltb 32 (length moves) few, e)
+
+    module _ (formed : WellFormed set) (numbered : any (λ r. not (within 1 (set .count) r)) moves ≡ false) where
+      admits : (o : Option Lines) → composed set moves ≡ o → admitted set moves ≡ isSome o
+      admits o e = admitted-composed set formed moves (no-unknown-iff (set .count) moves .0 numbered) ∙ ap isSome e
+
+      pub worked-denied : composed set moves ≡ none → worked ≡ record { outcome = 17; result = blankMacro }
+      worked-denied e = rw (le-ltb 32 (length moves) few, numbered, admits none e)
+
+      pub worked-given : (m : Lines) → composed set moves ≡ some m → worked ≡ record { outcome = 0; result = macroAt (sequenceCost set moves) (some m) }
+      worked-given m e = rw (le-ltb 32 (length moves) few, numbered, admits (some m) e, e)
+
+  -- and of any set
+  module _ (isValid : valid set ≡ true) where
+    answer-long : 32 < length moves → macroAnswer set moves ≡ record { outcome = 11; result = blankMacro }
+    answer-long h = answer-judged isValid ∙ worked-long h
+
+    module _ (few : length moves ≤ 32) where
+      answer-unknown : any (λ r. not (within 1 (set .count) r)) moves ≡ true → macroAnswer set moves ≡ record { outcome = 13; result = blankMacro }
+      answer-unknown e = answer-judged isValid ∙ worked-unknown few e
+
+      module _ (numbered : any (λ r. not (within 1 (set .count) r)) moves ≡ false) where
+        judged : Judged set moves
+        judged = (valid-iff set .0 isValid, (few, no-unknown-iff (set .count) moves .0 numbered))
+
+        answer-denied : composed set moves ≡ none → macroAnswer set moves ≡ record { outcome = 17; result = blankMacro }
+        answer-denied e = answer-judged isValid ∙ worked-denied few (judged .0 .formed) numbered e
+
+        pub answer-given : (m : Lines) → composed set moves ≡ some m → macroAnswer set moves ≡ record { outcome = 0; result = macroAt (sequenceCost set moves) (some m) }
+        answer-given m e = answer-judged isValid ∙ worked-given few (judged .0 .formed) numbered m e
+
+  -- ── The five answers ───────────────────────────────────────────────────────────────────────────
+
+  -- an answer, and what it is the answer to
+  pub data Answered : MacroAnswer → Type 0 where
+    invalid : (Valid set → ⊥) → Answered (record { outcome = 7; result = blankMacro })
+    long : Valid set → 32 < length moves → Answered (record { outcome = 11; result = blankMacro })
+    unknown : Valid set → length moves ≤ 32 → (Numbered (set .count) moves → ⊥) → Answered (record { outcome = 13; result = blankMacro })
+    denied : Judged set moves → composed set moves ≡ none → Answered (record { outcome = 17; result = blankMacro })
+    given : Judged set moves → (m : Lines) → composed set moves ≡ some m → Answered (record { outcome = 0; result = macroAt (sequenceCost set moves) (some m) })
+
+  -- the macro call's answer is one of them
+  pub answered : Answered (macroAnswer set moves)
+  answered = by-validity (valid set) refl
+    where
+      by-macro : (isValid : valid set ≡ true) (few : length moves ≤ 32) (numbered : any (λ r. not (within 1 (set .count) r)) moves ≡ false) (o : Option Lines) → composed set moves ≡ o
+          → Answered (macroAnswer set moves)
+      by-macro isValid few numbered none e = rw (answer-denied isValid few numbered e) (denied (judged isValid few numbered) e)
+      by-macro isValid few numbered (some m) e = rw (answer-given isValid few numbered m e) (given (judged isValid few numbered) m e)
+
+      by-numbers : valid set ≡ true → length moves ≤ 32 → (b : Bool) → any (λ r. not (within 1 (set .count) r)) moves ≡ b → Answered (macroAnswer set moves)
+      by-numbers isValid few true e = rw (answer-unknown isValid few e) (unknown (valid-iff set .0 isValid) few (λ n. not-both e (no-unknown-iff (set .count) moves .1 n)))
+      by-numbers isValid few false e = by-macro isValid few e (composed set moves) refl
+
+      by-length : valid set ≡ true → (b : Bool) → ltb 32 (length moves) ≡ b → Answered (macroAnswer set moves)
+      by-length isValid true e = let many = ltb-true 32 (length moves) e in rw (answer-long isValid many) (long (valid-iff set .0 isValid) many)
+      by-length isValid false e = by-numbers isValid (ltb-false 32 (length moves) e) (any (λ r. not (within 1 (set .count) r)) moves) refl
+
+      by-validity : (b : Bool) → valid set ≡ b → Answered (macroAnswer set moves)
+      by-validity true e = by-length e (ltb 32 (length moves)) refl
+      by-validity false e = rw (answer-invalid e) (invalid (λ v. not-both (valid-iff set .1 v) e))

@@ -1,0 +1,169 @@
+-- What the macro call's answer means: it gives a macro exactly if some state admits the sequence, and then the one macro that means what the sequence's rules do in turn;
+-- it is refused by 7, 11 or 13 exactly where that cause is the first.
+-- And what document 01 says of the macro besides: what it costs at most, that its unused places are 0, and which one the empty sequence has.
+-- Assumes nothing.
+use mathlib.Core.Path.{_≡_, refl, sym, ap, _∙_, subst}
+use mathlib.Core.Logic.{_↔_, _≢_, ⊎-elim}
+use mathlib.Core.Option.{Option·none-ne-some}
+use mathlib.Core.List.{List, []}
+use Prim.Native.Nat.{ℕ, _≤_, _<_}
+use native.Mathlib.Omega.{arith}
+use lib.ListN.{length, getD}
+use Rattle.theory_spec.specs.Sequences.{Sequence, Numbered}
+use Rattle.theory_spec.proofs.TestLaws.{below?}
+use Rattle.model_spec.specs.Rules.{sequenceCost}
+use Rattle.model_spec.specs.Validity.{Valid}
+use Rattle.model_spec.specs.declared.RuleSet.{RuleSet}
+use Rattle.model_spec.proofs.StateLaws.{width-beyond}
+use Rattle.model_spec.proofs.ValidityLaws.{valid-iff, valid-cost}
+use Rattle.macros_spec.specs.Composition.{ownVariables, emptyLines, composedFrom, composed}
+use Rattle.macros_spec.specs.Answers.{blankMacro, macroAnswer, Means, Denied, Admitted, Judged, Meaning}
+use Rattle.macros_spec.specs.declared.Macro.{Macro}
+use Rattle.macros_spec.specs.declared.MacroAnswer.{MacroAnswer}
+use Rattle.macros_spec.proofs.CanonicalForm.{Fitting}
+use Rattle.macros_spec.proofs.MeaningLaws.{means-canonical, means-admitted, composed-means, denied-iff}
+use Rattle.macros_spec.proofs.UniqueLaws.{means-unique}
+use Rattle.macros_spec.proofs.AnswerLaws.{Answered, invalid, long, unknown, denied, given, answered, answer-given}
+
+module _ (set : RuleSet) (moves : Sequence) where
+  -- ── What each number means ─────────────────────────────────────────────────────────────────────
+
+  -- refused by 7 exactly if the set is not valid
+  pub macro-invalid-iff : (macroAnswer set moves .outcome ≡ 7) ↔ (Valid set → ⊥)
+  macro-invalid-iff = go (answered set moves)
+    where
+      go : {a : MacroAnswer} → Answered set moves a → (a .outcome ≡ 7) ↔ (Valid set → ⊥)
+      go (invalid n) = (λ _. n, λ _. refl)
+      go (long v h) = (λ e. absurd (omega arith), λ n. absurd (n v))
+      go (unknown v h n) = (λ e. absurd (omega arith), λ n. absurd (n v))
+      go (denied j e) = (λ e. absurd (omega arith), λ n. absurd (n (j .0)))
+      go (given j m e) = (λ e. absurd (omega arith), λ n. absurd (n (j .0)))
+
+  -- by 11 exactly if it is valid, and there are more than 32 moves
+  pub macro-long-iff : (macroAnswer set moves .outcome ≡ 11) ↔ (Valid set × (32 < length moves))
+  macro-long-iff = go (answered set moves)
+    where
+      go : {a : MacroAnswer} → Answered set moves a → (a .outcome ≡ 11) ↔ (Valid set × (32 < length moves))
+      go (invalid n) = (λ e. absurd (omega arith), λ w. absurd (n (w .0)))
+      go (long v h) = (λ _. (v, h), λ _. refl)
+      go (unknown v h n) = (λ e. absurd (omega arith), λ w. absurd (omega arith))
+      go (denied j e) = (λ e. absurd (omega arith), λ w. absurd (omega arith))
+      go (given j m e) = (λ e. absurd (omega arith), λ w. absurd (omega arith))
+
+  -- by 13 exactly if it is valid, there are at most 32 moves, and one of them is no rule's number
+  pub macro-unknown-iff : (macroAnswer set moves .outcome ≡ 13) ↔ (Valid set × ((length moves ≤ 32) × (Numbered (set .count) moves → ⊥)))
+  macro-unknown-iff = go (answered set moves)
+    where
+      go : {a : MacroAnswer} → Answered set moves a → (a .outcome ≡ 13) ↔ (Valid set × ((length moves ≤ 32) × (Numbered (set .count) moves → ⊥)))
+      go (invalid n) = (λ e. absurd (omega arith), λ w. absurd (n (w .0)))
+      go (long v h) = (λ e. absurd (omega arith), λ w. absurd (omega arith))
+      go (unknown v h n) = (λ _. (v, (h, n)), λ _. refl)
+      go (denied j e) = (λ e. absurd (omega arith), λ w. absurd (w .1 .1 (j .1 .1)))
+      go (given j m e) = (λ e. absurd (omega arith), λ w. absurd (w .1 .1 (j .1 .1)))
+
+  not-denied : Admitted set moves → Denied set moves → ⊥
+  not-denied w n = Option·none-ne-some (w .1) (sym (n (w .0) (w .2)) ∙ w .3)
+
+  -- by 17 exactly if none of these holds, and no state admits the sequence
+  pub macro-denied-iff : (macroAnswer set moves .outcome ≡ 17) ↔ (Judged set moves × Denied set moves)
+  macro-denied-iff = go (answered set moves)
+    where
+      go : {a : MacroAnswer} → Answered set moves a → (a .outcome ≡ 17) ↔ (Judged set moves × Denied set moves)
+      go (invalid n) = (λ e. absurd (omega arith), λ w. absurd (n (w .0 .0)))
+      go (long v h) = (λ e. absurd (omega arith), λ w. absurd (omega arith))
+      go (unknown v h n) = (λ e. absurd (omega arith), λ w. absurd (n (w .0 .1 .1)))
+      go (denied j e) = (λ _. (j, denied-iff set (j .0 .formed) moves (j .1 .1) .0 e), λ _. refl)
+      go (given j m e) = (λ e. absurd (omega arith), λ w. absurd (not-denied (means-admitted set (j .0 .formed) moves _ (composed-means set (j .0 .formed) moves (j .1 .1) m e)) (w .1)))
+
+  -- and not refused exactly if some state does
+  pub macro-given-iff : (macroAnswer set moves .outcome ≡ 0) ↔ (Judged set moves × Admitted set moves)
+  macro-given-iff = go (answered set moves)
+    where
+      go : {a : MacroAnswer} → Answered set moves a → (a .outcome ≡ 0) ↔ (Judged set moves × Admitted set moves)
+      go (invalid n) = (λ e. absurd (omega arith), λ w. absurd (n (w .0 .0)))
+      go (long v h) = (λ e. absurd (omega arith), λ w. absurd (omega arith))
+      go (unknown v h n) = (λ e. absurd (omega arith), λ w. absurd (n (w .0 .1 .1)))
+      go (denied j e) = (λ e. absurd (omega arith), λ w. absurd (not-denied (w .1) (denied-iff set (j .0 .formed) moves (j .1 .1) .0 e)))
+      go (given j m e) = (λ _. (j, means-admitted set (j .0 .formed) moves _ (composed-means set (j .0 .formed) moves (j .1 .1) m e)), λ _. refl)
+
+  -- ── What the macro is ──────────────────────────────────────────────────────────────────────────
+
+  macro-means : macroAnswer set moves .outcome ≡ 0 → Means set moves (macroAnswer set moves .result)
+  macro-means = go (answered set moves)
+    where
+      go : {a : MacroAnswer} → Answered set moves a → a .outcome ≡ 0 → Means set moves (a .result)
+      go (invalid n) e = absurd (omega arith)
+      go (long v h) e = absurd (omega arith)
+      go (unknown v h n) e = absurd (omega arith)
+      go (denied j e) z = absurd (omega arith)
+      go (given j m e) z = composed-means set (j .0 .formed) moves (j .1 .1) m e
+
+  -- the macro is the one with the meaning
+  pub macro-iff : (m : Macro) → (macroAnswer set moves ≡ record { outcome = 0; result = m }) ↔ (Judged set moves × Means set moves m)
+  macro-iff m = (to, from)
+    where
+      to : macroAnswer set moves ≡ record { outcome = 0; result = m } → Judged set moves × Means set moves m
+      to e =
+          let z = ap (λ (a : MacroAnswer). a .outcome) e in
+          (macro-given-iff .0 z .0, subst (Means set moves) (ap (λ (a : MacroAnswer). a .result) e) (macro-means z))
+
+      from : Judged set moves × Means set moves m → macroAnswer set moves ≡ record { outcome = 0; result = m }
+      from w =
+          let z = macro-given-iff .1 (w .0, means-admitted set (w .0 .0 .formed) moves m (w .1)) in
+          let same = means-unique set (w .0 .0 .formed) moves (macroAnswer set moves .result) m (macro-means z) (w .1) in
+          λ i. record { outcome = z i; result = same i }
+
+  -- a macro costs at most 8,160: at most 32 rules, each at most 255
+  pub cost-bound : macroAnswer set moves .result .cost ≤ 8160
+  cost-bound = go (answered set moves)
+    where
+      go : {a : MacroAnswer} → Answered set moves a → a .result .cost ≤ 8160
+      go (invalid n) = omega arith
+      go (long v h) = omega arith
+      go (unknown v h n) = omega arith
+      go (denied j e) = omega arith
+      go (given j m e) = omega (arith, valid-cost set (j .0 .formed) moves (j .1 .1))
+
+  -- a refused macro is all zeros
+  pub macro-refused : macroAnswer set moves .outcome ≢ 0 → macroAnswer set moves .result ≡ blankMacro
+  macro-refused = go (answered set moves)
+    where
+      go : {a : MacroAnswer} → Answered set moves a → a .outcome ≢ 0 → a .result ≡ blankMacro
+      go (invalid n) _ = refl
+      go (long v h) _ = refl
+      go (unknown v h n) _ = refl
+      go (denied j e) _ = refl
+      go (given j m e) h = absurd (h refl)
+
+  -- ── All of it ──────────────────────────────────────────────────────────────────────────────────
+
+  pub answer-meaning : Meaning set moves (macroAnswer set moves)
+  answer-meaning = record {
+    notValid = macro-invalid-iff;
+    tooLong = macro-long-iff;
+    unknownMove = macro-unknown-iff;
+    denied = macro-denied-iff;
+    given = macro-given-iff;
+    means = macro-means;
+    bounded = cost-bound;
+    refused = macro-refused;
+  }
+
+module _ (set : RuleSet) (isValid : Valid set) where
+  -- beyond the positions there is the value 0 alone, and no variable
+  zero-beyond : (v : List ℕ) → Fitting (set .positions) (set .sizes) v → (i : ℕ) → set .positions ≤ i → getD v i 0 ≡ 0
+  zero-beyond v fits i h =
+      let one = width-beyond (set .positions) (set .sizes) i h in
+      ⊎-elim (λ c. omega (arith, fits i .constant c)) (λ c. absurd (omega (arith, fits i .used c))) (below? (getD v i 0) 16)
+
+  -- the unused places are 0
+  pub unused-places : (q : Sequence) (m : Macro) → Means set q m → (i : ℕ) → set .positions ≤ i → (getD (m .condition) i 0 ≡ 0) × (getD (m .effect) i 0 ≡ 0)
+  unused-places q m means i h =
+      let form = means-canonical set (isValid .formed) q m means in
+      (zero-beyond (m .condition) (form .conditionFits) i h, zero-beyond (m .effect) (form .effectFits) i h)
+
+  -- the empty sequence's macro: each variable in its own place, at no cost
+  pub macro-empty : macroAnswer set []
+      ≡ record { outcome = 0; result = record { condition = ownVariables (set .positions); effect = ownVariables (set .positions); cost = 0 } }
+  unfolding composed composedFrom emptyLines sequenceCost
+  macro-empty = answer-given set [] (valid-iff set .1 isValid) (omega arith) refl (emptyLines set) refl

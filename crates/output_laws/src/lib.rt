@@ -1,0 +1,1 @@
+// Texts laid over a buffer: a definition and laws.

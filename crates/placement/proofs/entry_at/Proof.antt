@@ -1,0 +1,20 @@
+-- `placement::entry_at` meets its contract: beyond the end of a list a read gives the default.
+-- Assumes nothing.
+use mathlib.Core.Path.{sym}
+use native.Mathlib.Omega.{arith}
+use lib.ListN.{List·getD-eq-default}
+use borrow.Author.Needs.{needs}
+use Rattle.placement.proofs.entry_at.Statement.{statement}
+use Rattle.placement.proofs.entry_at.Tie as tie
+
+shared-slice-read-result : tie.Need-shared-slice-read-result
+shared-slice-read-result c = search needs
+
+returns : tie.Need-returns
+returns c = search needs
+
+returns-2 : tie.Need-returns-2
+returns-2 c = sym (List·getD-eq-default (c .before .before .args .list .now) 0 (omega arith))
+
+pub entry-at-spec : {M : Type 1} → statement M
+entry-at-spec = tie.close (tie.spec shared-slice-read-result returns returns-2)

@@ -1,0 +1,9 @@
+pub mod OfTextLaws
+pub mod PackedLaws
+pub mod PackedLengthLaws
+pub mod TextSearchLaws
+pub mod RewritingLaws
+pub mod TextTableLaws
+pub mod MacroBytesLaws
+pub mod TextMacroLaws
+pub mod MacroShape

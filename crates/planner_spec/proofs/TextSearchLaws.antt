@@ -1,0 +1,80 @@
+-- The search of a rule text: what it means, what it leaves without a plan, and that its answer fits the packing. 7 is never its outcome, since a set that was read is valid.
+-- Assumes nothing.
+use mathlib.Core.Path.{_≡_, refl, sym, ap, subst, _∙_}
+use mathlib.Core.Logic.{_≢_, ⊎-elim}
+use mathlib.Core.List.{List}
+use Prim.Native.Nat.{ℕ, _<_}
+use native.Mathlib.Omega.{arith}
+use lib.ListN.{replicate}
+use Rattle.theory_spec.proofs.TestLaws.{equal?}
+use Rattle.files_spec.specs.Reading.{reading}
+use Rattle.files_spec.proofs.RefusedLaws.{reading-other, reading-byte}
+use Rattle.files_spec.proofs.ReadTextLaws.{read-valid}
+use Rattle.search_spec.specs.Query.{Query}
+use Rattle.search_spec.specs.Searched.{Searched, searched, noMove, SearchMeaning}
+use Rattle.search_spec.proofs.AnswerLaws.{outcome-bound, cost-bound, length-bound, steps-bound, searched-blank}
+use Rattle.search_spec.proofs.MeaningLaws.{search-meaning}
+use Rattle.planner_spec.specs.Packed.{textRefused, searchedText}
+use Rattle.planner_spec.specs.TextSearch.{TextSearchMeaning}
+use Rattle.planner_spec.proofs.OfTextLaws.{of-read, of-refused}
+use Rattle.planner_spec.proofs.PackedLaws.{Fits}
+
+module _ (text : List ℕ) (query : Query) where
+  pub refused-text : reading text .outcome ≢ 0 → searchedText text query ≡ textRefused (reading text .outcome) (query .planSize)
+  unfolding searchedText
+  refused-text n = of-refused text (λ set. searched set query) (λ k. textRefused k (query .planSize)) n
+
+  pub read-text : reading text .outcome ≡ 0 → searchedText text query ≡ searched (reading text .set) query
+  unfolding searchedText
+  read-text h = of-read text (λ set. searched set query) (λ k. textRefused k (query .planSize)) h
+
+  -- what holds of both holds of the search
+  by-text : (P : Searched → Type 0) → P (searched (reading text .set) query) → P (textRefused (reading text .outcome) (query .planSize)) → P (searchedText text query)
+  by-text P r n =
+      ⊎-elim (λ h. subst P (sym (read-text h)) r) (λ k. subst P (sym (refused-text k)) n) (equal? (reading text .outcome) 0)
+
+  -- its answer fits, with a step limit of 32 bits
+  pub entry-fits : query .stepLimit < 4294967296 → Fits (searchedText text query .answer)
+  unfolding textRefused
+  entry-fits h =
+      let set = reading text .set in
+      by-text (λ found. Fits (found .answer))
+      (record {
+        outcome = omega (arith, outcome-bound set query);
+        cost = omega (arith, cost-bound set query);
+        length = omega (arith, length-bound set query);
+        steps = omega (arith, steps-bound set query, h);
+      })
+      (record { outcome = reading-byte text; cost = omega arith; length = omega arith; steps = omega arith })
+
+  -- demand 1: without a plan it blanks the whole plan buffer, refused texts included
+  pub entry-blank : searchedText text query .answer .outcome ≢ 0
+      → (searchedText text query .answer .cost ≡ 0) × (searchedText text query .answer .length ≡ 0) × (searchedText text query .plan ≡ replicate (query .planSize) noMove)
+  unfolding textRefused
+  entry-blank =
+      by-text (λ found. found .answer .outcome ≢ 0 → (found .answer .cost ≡ 0) × (found .answer .length ≡ 0) × (found .plan ≡ replicate (query .planSize) noMove))
+      (searched-blank (reading text .set) query)
+      (λ _. (refl, refl, refl))
+
+  -- no text gives 7
+  never-invalid : searchedText text query .answer .outcome ≢ 7
+  unfolding textRefused
+  never-invalid e =
+      let outcome : Searched → ℕ = λ found. found .answer .outcome in
+      ⊎-elim (λ h. search-meaning (reading text .set) query .notValid .0 (sym (ap outcome (read-text h)) ∙ e) (read-valid text h))
+      (λ n. reading-other text 7 refl (sym (ap outcome (refused-text n)) ∙ e))
+      (equal? (reading text .outcome) 0)
+
+  -- ── What it means ──────────────────────────────────────────────────────────────────────────────
+
+  pub text-search-meaning : TextSearchMeaning text query (searchedText text query)
+  text-search-meaning =
+      record {
+        refusedText = refused-text;
+        readText = λ h. subst (SearchMeaning (reading text .set) query) (sym (read-text h)) (search-meaning (reading text .set) query);
+        never7 = never-invalid;
+      }
+
+  -- the same of what is equal
+  pub text-found : (found : Searched) → searchedText text query ≡ found → (searchedText text query ≡ found) × TextSearchMeaning text query found
+  text-found found e = (e, subst (TextSearchMeaning text query) e text-search-meaning)

@@ -1,0 +1,117 @@
+-- What the entries on tables give of a text that is read and of one that is refused, and what it means; and that the length that is told can be built, and what is built passes the check.
+-- Assumes nothing.
+use mathlib.Core.Path.{_≡_, refl, sym, ap, _∙_}
+use mathlib.Core.Logic.{_≢_, ⊎-elim}
+use mathlib.Core.List.{List}
+use Prim.Native.Nat.{ℕ, _≤_, _<_}
+use native.Mathlib.Omega.{arith}
+use lib.ListN.{length, replicate}
+use Rattle.theory_spec.proofs.TestLaws.{equal?}
+use Rattle.model_spec.specs.Validity.{Valid}
+use Rattle.model_spec.specs.declared.RuleSet.{RuleSet}
+use Rattle.model_spec.proofs.RefusalLaws.{refusal-at-most}
+use Rattle.files_spec.specs.Reading.{reading}
+use Rattle.files_spec.proofs.RefusedLaws.{reading-other, reading-byte}
+use Rattle.files_spec.proofs.ReadTextLaws.{read-valid}
+use Rattle.tables_spec.specs.declared.TableSize.{TableSize}
+use Rattle.tables_spec.specs.Answers.{sizeCauses, tableSize, buildOutcome, builtBuffer, checkOutcome}
+use Rattle.tables_spec.proofs.AnswerLaws.{built-whole, built-checks, build-meaning, check-meaning}
+use Rattle.tables_spec.proofs.SizeLaws.{size-meaning, size-builds-iff}
+use Rattle.planner_spec.specs.TextTables.{textTableSize, textBuildOutcome, textBuiltBuffer, textCheckOutcome, TextSizeMeaning, TextBuildMeaning, TextCheckMeaning}
+use Rattle.planner_spec.proofs.OfTextLaws.{of-read, of-refused}
+
+-- an outcome is not 7 where it is the reading's for a refused text, and says that the set is not valid for any other
+pub not-7 : (text : List ℕ) (outcome : ℕ) → (reading text .outcome ≢ 0 → outcome ≡ reading text .outcome)
+    → (reading text .outcome ≡ 0 → outcome ≡ 7 → Valid (reading text .set) → ⊥) → outcome ≢ 7
+not-7 text outcome refused invalid e =
+    ⊎-elim (λ z. invalid z e (read-valid text z)) (λ h. absurd (reading-other text 7 refl (sym (refused h) ∙ e))) (equal? (reading text .outcome) 0)
+
+size-outcome : (set : RuleSet) (reach : ℕ) → tableSize set reach .outcome ≤ 7
+unfolding tableSize
+size-outcome set reach = refusal-at-most 7 (sizeCauses set reach) (omega arith, (omega arith, tt))
+
+module _ (text : List ℕ) (reach : ℕ) where
+  pub size-read : reading text .outcome ≡ 0 → textTableSize text reach ≡ tableSize (reading text .set) reach
+  unfolding textTableSize
+  size-read = of-read text _ _
+
+  pub size-refused : reading text .outcome ≢ 0 → textTableSize text reach ≡ record { outcome = reading text .outcome; length = 0 }
+  unfolding textTableSize
+  size-refused = of-refused text _ _
+
+  -- the outcome fits one byte
+  pub size-byte : textTableSize text reach .outcome < 256
+  size-byte =
+      ⊎-elim (λ e. omega (arith, ap (λ (a : TableSize). a .outcome) (size-read e), size-outcome (reading text .set) reach))
+      (λ h. omega (arith, ap (λ (a : TableSize). a .outcome) (size-refused h), reading-byte text)) (equal? (reading text .outcome) 0)
+
+  pub text-size-meaning : TextSizeMeaning text reach (textTableSize text reach)
+  text-size-meaning = record {
+    refusedText = λ h. (ap (λ (a : TableSize). a .outcome) (size-refused h), ap (λ (a : TableSize). a .length) (size-refused h));
+    readText = λ e. rw (size-read e) (size-meaning (reading text .set) reach);
+    never7 = not-7 text (textTableSize text reach .outcome) (λ h. ap (λ (a : TableSize). a .outcome) (size-refused h))
+        (λ e z. size-meaning (reading text .set) reach .notValid .0 (sym (ap (λ (a : TableSize). a .outcome) (size-read e)) ∙ z));
+  }
+
+module _ (text : List ℕ) (reach size : ℕ) where
+  pub build-read : reading text .outcome ≡ 0
+      → (textBuildOutcome text reach size ≡ buildOutcome (reading text .set) reach size) × (textBuiltBuffer text reach size ≡ builtBuffer (reading text .set) reach size)
+  unfolding textBuildOutcome textBuiltBuffer
+  build-read e = (of-read text _ _ e, of-read text _ _ e)
+
+  pub build-refused : reading text .outcome ≢ 0 → (textBuildOutcome text reach size ≡ reading text .outcome) × (textBuiltBuffer text reach size ≡ replicate size 0)
+  unfolding textBuildOutcome textBuiltBuffer
+  build-refused h = (of-refused text _ _ h, of-refused text _ _ h)
+
+  pub text-build-meaning : TextBuildMeaning text reach size (textBuildOutcome text reach size) (textBuiltBuffer text reach size)
+  text-build-meaning = record {
+    refusedText = build-refused;
+    readText = λ e. let w = build-read e in rw (w .0, w .1) (build-meaning (reading text .set) reach size);
+    never7 = not-7 text (textBuildOutcome text reach size) (λ h. build-refused h .0)
+        (λ e z. build-meaning (reading text .set) reach size .notValid .0 (sym (build-read e .0) ∙ z));
+  }
+
+module _ (text : List ℕ) (reach : ℕ) (table : List ℕ) where
+  pub check-read : reading text .outcome ≡ 0 → textCheckOutcome text reach table ≡ checkOutcome (reading text .set) reach table
+  unfolding textCheckOutcome
+  check-read = of-read text _ _
+
+  pub check-refused : reading text .outcome ≢ 0 → textCheckOutcome text reach table ≡ reading text .outcome
+  unfolding textCheckOutcome
+  check-refused = of-refused text _ _
+
+  pub text-check-meaning : TextCheckMeaning text reach table (textCheckOutcome text reach table)
+  text-check-meaning = record {
+    refusedText = check-refused;
+    readText = λ e. rw (check-read e) (check-meaning (reading text .set) reach table);
+    never7 = not-7 text (textCheckOutcome text reach table) check-refused
+        (λ e z. check-meaning (reading text .set) reach table .notValid .0 (sym (check-read e) ∙ z));
+  }
+
+-- ── The entries together ─────────────────────────────────────────────────────────────────────────
+
+module _ (text : List ℕ) (reach : ℕ) where
+  -- an outcome 0 comes of a text that is read
+  is-read : (n : ℕ) → (reading text .outcome ≢ 0 → n ≡ reading text .outcome) → n ≡ 0 → reading text .outcome ≡ 0
+  is-read n refused z = ⊎-elim (λ e. e) (λ h. absurd (h (sym (refused h) ∙ z))) (equal? (reading text .outcome) 0)
+
+  -- a table of the length that is told can be built
+  pub told-builds : textTableSize text reach .outcome ≡ 0 → textBuildOutcome text reach (textTableSize text reach .length) ≡ 0
+  told-builds z =
+      let told = textTableSize text reach in
+      let e = is-read (told .outcome) (λ h. text-size-meaning text reach .refusedText h .0) z in
+      build-read text reach (told .length) e .0
+      ∙ size-builds-iff (reading text .set) reach (told .length) .1 (
+        sym (ap (λ (a : TableSize). a .outcome) (size-read text reach e)) ∙ z,
+        ap (λ (a : TableSize). a .length) (size-read text reach e),
+      )
+
+  -- and the check passes what a build leaves
+  pub built-passes : (size : ℕ) → textBuildOutcome text reach size ≡ 0 → textCheckOutcome text reach (textBuiltBuffer text reach size) ≡ 0
+  built-passes size z =
+      let e = is-read (textBuildOutcome text reach size) (λ h. build-refused text reach size h .0) z in
+      let w = build-read text reach size e in
+      let built = sym (w .0) ∙ z in
+      check-read text reach (textBuiltBuffer text reach size) e
+      ∙ ap (checkOutcome (reading text .set) reach) (w .1 ∙ built-whole (reading text .set) reach size built)
+      ∙ built-checks (reading text .set) reach size built

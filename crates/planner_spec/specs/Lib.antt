@@ -1,0 +1,7 @@
+pub mod OfText
+pub mod Packed
+pub mod PackedLength
+pub mod TextSearch
+pub mod Rewriting
+pub mod TextTables
+pub mod TextMacro

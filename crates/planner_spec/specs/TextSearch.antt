@@ -1,0 +1,18 @@
+-- The search of a rule text as a statement.
+use mathlib.Core.Path.{_≡_}
+use mathlib.Core.Logic.{_≢_}
+use mathlib.Core.List.{List}
+use Prim.Native.Nat.{ℕ}
+use Rattle.files_spec.specs.Reading.{reading}
+use Rattle.search_spec.specs.Query.{Query}
+use Rattle.search_spec.specs.Searched.{Searched, SearchMeaning}
+use Rattle.planner_spec.specs.Packed.{textRefused}
+
+-- what the search of a rule text tells and leaves
+pub record TextSearchMeaning (text : List ℕ) (query : Query) (found : Searched) : Type 0 where
+  -- of a refused text its own refusal, before all of the query's
+  pub refusedText : reading text .outcome ≢ 0 → found ≡ textRefused (reading text .outcome) (query .planSize)
+  -- of any other what a search of its set means
+  pub readText : reading text .outcome ≡ 0 → SearchMeaning (reading text .set) query found
+  -- a set that was read is valid
+  pub never7 : found .answer .outcome ≢ 7

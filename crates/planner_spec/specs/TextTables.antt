@@ -1,0 +1,50 @@
+-- The C entries on tables: they take the rule text in place of a set, and 1 to 4 of the text come before all else.
+use mathlib.Core.Path.{_≡_}
+use mathlib.Core.Logic.{_≢_}
+use mathlib.Core.List.{List}
+use Prim.Native.Nat.{ℕ}
+use lib.ListN.{replicate}
+use Rattle.files_spec.specs.Reading.{reading}
+use Rattle.tables_spec.specs.declared.TableSize.{TableSize}
+use Rattle.tables_spec.specs.Answers.{tableSize, buildOutcome, builtBuffer, checkOutcome, SizeMeaning, BuildMeaning, CheckMeaning}
+use Rattle.planner_spec.specs.PackedLength.{packedLength}
+use Rattle.planner_spec.specs.OfText.{ofText}
+
+-- how long a table is; a refused text has no length
+unfoldable pub textTableSize : List ℕ → ℕ → TableSize
+textTableSize text reach = ofText text (λ set. tableSize set reach) (λ n. record { outcome = n; length = 0 })
+
+-- the number that the entry gives
+unfoldable pub packedTableSize : List ℕ → ℕ → ℕ
+packedTableSize text reach = packedLength (textTableSize text reach .outcome) (textTableSize text reach .length)
+
+-- the builder's outcome for a table of `size` bytes
+unfoldable pub textBuildOutcome : List ℕ → ℕ → ℕ → ℕ
+textBuildOutcome text reach size = ofText text (λ set. buildOutcome set reach size) (λ n. n)
+
+-- the table after the builder; a refused text zeroes it
+unfoldable pub textBuiltBuffer : List ℕ → ℕ → ℕ → List ℕ
+textBuiltBuffer text reach size = ofText text (λ set. builtBuffer set reach size) (λ n. replicate size 0)
+
+-- the check's outcome
+unfoldable pub textCheckOutcome : List ℕ → ℕ → List ℕ → ℕ
+textCheckOutcome text reach table = ofText text (λ set. checkOutcome set reach table) (λ n. n)
+
+-- ── What they mean ───────────────────────────────────────────────────────────────────────────────
+
+-- Of a refused text its own refusal, and no length or zeros; of any other what the call on its set means. No entry gives 7: a set that was read is valid.
+
+pub record TextSizeMeaning (text : List ℕ) (reach : ℕ) (answer : TableSize) : Type 0 where
+  pub refusedText : reading text .outcome ≢ 0 → (answer .outcome ≡ reading text .outcome) × (answer .length ≡ 0)
+  pub readText : reading text .outcome ≡ 0 → SizeMeaning (reading text .set) reach answer
+  pub never7 : answer .outcome ≢ 7
+
+pub record TextBuildMeaning (text : List ℕ) (reach size outcome : ℕ) (table : List ℕ) : Type 0 where
+  pub refusedText : reading text .outcome ≢ 0 → (outcome ≡ reading text .outcome) × (table ≡ replicate size 0)
+  pub readText : reading text .outcome ≡ 0 → BuildMeaning (reading text .set) reach size outcome table
+  pub never7 : outcome ≢ 7
+
+pub record TextCheckMeaning (text : List ℕ) (reach : ℕ) (table : List ℕ) (outcome : ℕ) : Type 0 where
+  pub refusedText : reading text .outcome ≢ 0 → outcome ≡ reading text .outcome
+  pub readText : reading text .outcome ≡ 0 → CheckMeaning (reading text .set) reach table outcome
+  pub never7 : outcome ≢ 7

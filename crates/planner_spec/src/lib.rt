@@ -1,0 +1,1 @@
+// What the C entries answer: definitions and laws.

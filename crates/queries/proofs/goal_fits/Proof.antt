@@ -1,0 +1,99 @@
+-- `queries::goal_fits` meets its contract. The invariant: the tests of the positions from i on decide the whole.
+-- Assumes nothing.
+use mathlib.Core.Path.{_≡_}
+use mathlib.Core.Logic.{⊎-elim}
+use mathlib.Core.Bool.{Bool, true, _&&_, _||_}
+use mathlib.Core.List.{List}
+use Prim.Native.Nat.{ℕ, _≤_, _-_}
+use native.Mathlib.Omega.{arith}
+use lib.Dec.{ltb, eqb}
+use lib.ListN.{length, getD}
+use borrow.Author.Tests.{eq-eqb, ne-eqb, lt-ltb, le-ltb}
+use borrow.Author.Needs.{needs}
+use Rattle.theory_spec.specs.Lists.{every, numbersFrom}
+use Rattle.theory_spec.proofs.ListLaws.{or-left, or-right}
+use Rattle.model_spec.proofs.LoopLaws.{every-go, every-stop, every-end, sized}
+use Rattle.search_spec.specs.Query.{anyValue, goalFits}
+use Rattle.queries.proofs.goal_fits.Statement.{statement}
+use Rattle.queries.proofs.goal_fits.Tie as tie
+
+-- the test of position i
+abbrev test : List ℕ → List ℕ → ℕ → Bool
+test sizes goal i = eqb (getD goal i 0) anyValue || ltb (getD goal i 0) (getD sizes i 0)
+
+abbrev Inv-loop : tie.InvT-loop
+Inv-loop goal positions sizes i₀ i = (i ≤ positions) × (every (test sizes goal) (numbersFrom i (positions - i)) ≡ (eqb (length goal) positions && every (test sizes goal) (numbersFrom 0 positions)))
+
+abbrev μ-loop : tie.MeasureT-loop
+μ-loop goal positions sizes i₀ i = positions - i
+
+cast-positions : tie.Need-cast-positions Inv-loop μ-loop
+cast-positions c = search needs
+
+returns : tie.Need-returns Inv-loop μ-loop
+unfolding goalFits
+returns c = rw (ne-eqb _ _ (c .if1 .taken))
+
+loop-holds : tie.Need-loop-holds Inv-loop μ-loop
+loop-holds c =
+    let s = c .before .before .before .args in
+    let all : s .set .positions - 0 ≡ s .set .positions = omega arith in
+    (search needs, rw all (sized (s .goal .now) _ _ (c .before .if1 .left)))
+
+shared-slice-read-if2 : tie.Need-shared-slice-read-if2 Inv-loop μ-loop
+shared-slice-read-if2 c = search needs
+
+array-read-if3 : tie.Need-array-read-if3 Inv-loop μ-loop
+array-read-if3 c = search needs
+
+shared-slice-read-if3 : tie.Need-shared-slice-read-if3 Inv-loop μ-loop
+shared-slice-read-if3 c = search needs
+
+returns-2 : tie.Need-returns-2 Inv-loop μ-loop
+unfolding goalFits
+returns-2 c =
+    let s = c .before .before .before .before .before .before .before .before .before .args in
+    let l = c .before .before .before .before .before .loop in
+    every-stop (test (s .set .sizes) (s .goal .now)) (l .i) (s .set .positions) _ (l .inv .1) (omega arith)
+    (rw (ne-eqb _ _ (c .before .before .if2 .taken)) (le-ltb _ _ (c .if3 .taken)))
+
+add-i : tie.Need-add-i Inv-loop μ-loop
+add-i c = search needs
+
+loop-less : tie.Need-loop-less Inv-loop μ-loop
+loop-less c = search needs
+
+loop-again : tie.Need-loop-again Inv-loop μ-loop
+loop-again c =
+    let s = c .before .before .before .before .before .before .before .args in
+    let l = c .before .before .before .loop in
+    let byte = getD (s .goal .now) (l .i) 0 in
+    let size = getD (s .set .sizes) (l .i) 0 in
+    let passed : test (s .set .sizes) (s .goal .now) (l .i) ≡ true =
+    ⊎-elim (λ w. or-right (eqb byte anyValue) (lt-ltb byte size (w .2 .left))) (λ w. or-left (ltb byte size) (eq-eqb byte anyValue (w .left))) (c .if2 .came) in
+    (search needs, every-go (test (s .set .sizes) (s .goal .now)) (l .i) (s .set .positions) _ (l .inv .1) (omega arith) passed)
+
+returns-3 : tie.Need-returns-3 Inv-loop μ-loop
+unfolding goalFits
+returns-3 c =
+    let s = c .before .before .before .before .before .args in
+    let l = c .before .loop in
+    every-end (test (s .set .sizes) (s .goal .now)) (l .i) (s .set .positions) _ (l .inv .1) (omega arith)
+
+pub goal-fits-spec : {M : Type 1} → statement M
+goal-fits-spec =
+    tie.close
+    (tie.spec
+    Inv-loop
+    μ-loop
+    cast-positions
+    returns
+    loop-holds
+    shared-slice-read-if2
+    array-read-if3
+    shared-slice-read-if3
+    returns-2
+    add-i
+    loop-less
+    loop-again
+    returns-3)

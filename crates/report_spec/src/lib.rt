@@ -1,0 +1,1 @@
+// The listing of a rule file's pruning table: definitions and laws.

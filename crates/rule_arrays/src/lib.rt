@@ -1,0 +1,50 @@
+// The lines and costs of a set's rules as arrays, to be lent.
+use model_spec::RuleSet;
+ghost use mathlib.Core.Path.{_≡_};
+ghost use mathlib.Core.List.{map};
+
+// The conditions of all rules, to be lent.
+pub fn conditions_of(set: RuleSet) -> [[u8; 16]; 31]
+    ensures { λ r. ⌜ r ≡ map (λ rule. rule .condition) (set .rules) ⌝ }
+{
+    let zeros = [0u8; 16];
+    let mut conditions = [zeros; 31];
+    let mut k: usize = 0;
+    while k < 31 {
+        let rule = set.rules[k];
+        let condition = rule.condition;
+        conditions[k] = condition;
+        k += 1;
+    }
+    conditions
+}
+
+// The effects of all rules.
+pub fn effects_of(set: RuleSet) -> [[u8; 16]; 31]
+    ensures { λ r. ⌜ r ≡ map (λ rule. rule .effect) (set .rules) ⌝ }
+{
+    let zeros = [0u8; 16];
+    let mut effects = [zeros; 31];
+    let mut k: usize = 0;
+    while k < 31 {
+        let rule = set.rules[k];
+        let effect = rule.effect;
+        effects[k] = effect;
+        k += 1;
+    }
+    effects
+}
+
+// The costs of all rules.
+pub fn costs_of(set: RuleSet) -> [u8; 31]
+    ensures { λ r. ⌜ r ≡ map (λ rule. rule .cost) (set .rules) ⌝ }
+{
+    let mut costs = [0u8; 31];
+    let mut k: usize = 0;
+    while k < 31 {
+        let rule = set.rules[k];
+        costs[k] = rule.cost;
+        k += 1;
+    }
+    costs
+}

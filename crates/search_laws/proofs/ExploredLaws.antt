@@ -1,0 +1,132 @@
+-- What the search carries along from the empty sequence on, over what it lends to itself, is what document 01's search asks for: the number of visited sequences up to the step limit,
+-- and the cheapest plan if the limit is not exceeded.
+-- Assumes nothing.
+use mathlib.Core.Path.{_≡_, refl, sym, ap, ap₂, _∙_, subst, fun-ext}
+use mathlib.Core.Bool.{Bool, false, _&&_}
+use mathlib.Core.Option.{Option, some, none}
+use mathlib.Core.List.{List, [], _∷_, _++_, map}
+use Prim.Native.Nat.{ℕ, _-_, _<_, zero-le}
+use native.Mathlib.Omega.{arith}
+use lib.Dec.{leb, eqb}
+use lib.ListN.{length, getD, List·getD-map}
+use lib.Seq.{take-all}
+use borrow.Author.Tests.{le-leb}
+use Rattle.theory_spec.specs.Lists.{onlyIf, foldOver}
+use Rattle.theory_spec.specs.Sequences.{Sequence, run, costOf, Numbered}
+use Rattle.theory_spec.specs.Indices.{indexOf}
+use Rattle.theory_spec.specs.Plans.{endsIn, reaches}
+use Rattle.theory_spec.specs.Recursion.{explore, exploreWith, last, allowedNext, best}
+use Rattle.theory_spec.proofs.ListLaws.{and-join, never-true}
+use Rattle.theory_spec.proofs.VisitLaws.{explore-same, visited-explore-next, explore-fold}
+use Rattle.theory_spec.proofs.PlanLaws.{best-cheapest}
+use Rattle.model_spec.specs.States.{State, applicable, successor}
+use Rattle.model_spec.specs.Rules.{noRule, ruleAt, stepOf, ruleCost, StateOf, sequenceCost}
+use Rattle.model_spec.specs.declared.RuleSet.{RuleSet}
+use Rattle.model_spec.proofs.ValidityLaws.{valid-closed}
+use Rattle.tables_spec.specs.Table.{marked}
+use Rattle.tables_spec.proofs.TableLaws.{accepted-iff, marked-short, accepted-justified}
+use Rattle.search_spec.specs.Query.{Query, startState, meetsGoal, visitedBy, plansFor}
+use Rattle.search_spec.specs.Searched.{NotRefused, WellPosed, cheapestPlan}
+use Rattle.search_spec.proofs.VisitedLaws.{start-fits-iff}
+use Rattle.search_spec.proofs.PlanVisited.{start-state}
+use Rattle.search_spec.proofs.MeaningLaws.{not-refused-iff}
+use Rattle.search_laws.specs.Lookup.{LooksUp}
+use Rattle.search_laws.specs.Visits.{lentStep, lentCost, mayGoOn, noted, noProgress, visitsFrom, asBest, Explored}
+use Rattle.search_laws.specs.declared.Limits.{Limits}
+use Rattle.search_laws.specs.declared.Progress.{Progress}
+use Rattle.search_laws.proofs.LookupLaws.{look-up-marks}
+use Rattle.search_laws.proofs.ProgressLaws.{notedAs, noted-as, noteOf, fold-progress}
+
+-- the rows that are lent have the rules' steps and costs
+lent-step : (set : RuleSet) → lentStep (map (λ rule. rule .condition) (set .rules)) (map (λ rule. rule .effect) (set .rules)) ≡ stepOf set
+unfolding lentStep stepOf ruleAt
+lent-step set =
+    fun-ext λ r. fun-ext λ s. ap₂ (λ condition effect. onlyIf (applicable condition s) (successor effect s)) (List·getD-map (λ rule. rule .condition) (set .rules) (r - 1) noRule)
+    (List·getD-map (λ rule. rule .effect) (set .rules) (r - 1) noRule)
+
+lent-cost : (set : RuleSet) → lentCost (map (λ rule. rule .cost) (set .rules)) ≡ ruleCost set
+unfolding lentCost ruleCost ruleAt
+lent-cost set = fun-ext λ r. List·getD-map (λ rule. rule .cost) (set .rules) (r - 1) noRule
+
+module _ (set : RuleSet) (query : Query) (notRefused : NotRefused set query) (blocked : List ℕ) (looks : LooksUp (set .count) (query .table) blocked) where
+  judged : WellPosed set query
+  judged = not-refused-iff set query .0 notRefused
+
+  abbrev marks : Sequence → Bool
+  marks = marked set (query .reach) (query .table)
+
+  -- a sequence leads to the goal
+  abbrev good : Sequence → Bool
+  good = reaches (stepOf set) (startState query) (meetsGoal (query .goal))
+
+  -- what visiting a sequence makes of the progress
+  abbrev note : Sequence → Progress → Progress
+  note = noteOf (ruleCost set) (query .stepLimit) good
+
+  -- the search may go on to q, by costs and look-up
+  abbrev may : (ℕ → ℕ) → Sequence → Bool
+  may cost q = leb (costOf cost q) (query .maxCost) && eqb (getD blocked (indexOf (set .count) (last (query .reach) q)) 0) 0
+
+  -- the visits, by steps, costs and look-up
+  abbrev visits : (ℕ → State → Option State) → (ℕ → ℕ) → Progress
+  visits step cost =
+      exploreWith step (set .count) (λ q _. may cost q) (λ q. noted (query .goal) (query .stepLimit) (costOf cost q) q) (query .maxMoves) [] (startState query) noProgress
+
+  -- what is visited by the look-up is what the table's marks allow
+  visited-list : visitedBy set query ≡ explore (stepOf set) (set .count) (λ q _. may (ruleCost set) q) (query .maxMoves) [] (startState query)
+  unfolding visitedBy
+  visited-list =
+      visited-explore-next (stepOf set) (ruleCost set) (set .count) marks (startState query) (query .maxCost) (query .reach) short (query .maxMoves)
+      ∙ explore-same (stepOf set) (set .count) (λ q _. allowedNext (ruleCost set) marks (query .maxCost) (query .reach) q) (λ q _. may (ruleCost set) q) (λ q r s t k h p. agree (q ++ (r ∷ [])) k) (query .maxMoves) []
+      (startState query) tt (and-join (le-leb 0 (query .maxCost) zero-le) refl)
+    where
+      short : (b : Sequence) → query .reach < length b → marks b ≡ false
+      short b h = never-true (marks b) (λ e. omega (arith, marked-short set (query .reach) (query .table) b e .0))
+
+      agree : (q : Sequence) → Numbered (set .count) q → allowedNext (ruleCost set) marks (query .maxCost) (query .reach) q ≡ may (ruleCost set) q
+      agree q k =
+          let ready = judged .0 .0 .0 .0 .0 in
+          ap (λ b. leb (costOf (ruleCost set) q) (query .maxCost) && b)
+          (sym (look-up-marks set (query .reach) (query .table) blocked (ready .1 .0 .1) (ready .1 .1) looks q k))
+
+  -- the visits are the fold over it
+  visits-fold : visits (stepOf set) (ruleCost set) ≡ foldOver note noProgress (visitedBy set query)
+  visits-fold =
+      explore-fold (stepOf set) (set .count) (λ q _. may (ruleCost set) q) (startState query) (λ q. noted (query .goal) (query .stepLimit) (costOf (ruleCost set) q) q) note agree (query .maxMoves) []
+      (startState query) noProgress refl
+      ∙ ap (foldOver note noProgress) (sym visited-list)
+    where
+      agree : (q : Sequence) (s : State) (p : Progress) → run (stepOf set) q (startState query) ≡ some s → noted (query .goal) (query .stepLimit) (costOf (ruleCost set) q) q s p ≡ note q p
+      agree q s p e =
+          noted-as (ruleCost set) (query .stepLimit) (query .goal) q s p ∙ ap (λ o. notedAs (ruleCost set) (query .stepLimit) (endsIn (meetsGoal (query .goal)) o) q p) (sym e)
+
+  -- the best of what is visited is the cheapest of all plans
+  best-plan : best (ruleCost set) good none (visitedBy set query) ≡ cheapestPlan set query
+  unfolding visitedBy cheapestPlan plansFor
+  best-plan =
+      let started = judged .0 .0 .0 .0 in
+      let v = started .0 .0 .formed in
+      best-cheapest (stepOf set) (ruleCost set) (set .count) (StateOf set) (valid-closed set v) marks
+      (accepted-justified set (query .reach) (query .table) (accepted-iff set (query .reach) (query .table) .1 (judged .1))) (startState query)
+      (start-state set query v (start-fits-iff set (query .start) .1 (started .1))) (meetsGoal (query .goal)) (query .maxMoves) (query .maxCost)
+
+  visits-explored : Explored set query (visits (stepOf set) (ruleCost set))
+  unfolding sequenceCost
+  visits-explored =
+      let w = fold-progress (ruleCost set) (query .stepLimit) good (visitedBy set query) in
+      subst (Explored set query) (sym visits-fold)
+      (record {
+        steps = w .0;
+        exceeded = w .1;
+        looked = w .2;
+        best = λ h. w .2 ∙ ap (λ l. asBest (costOf (ruleCost set)) (best (ruleCost set) good none l)) (take-all (query .stepLimit) (visitedBy set query) h) ∙ ap (asBest (costOf (ruleCost set))) best-plan;
+        floor = w .3;
+      })
+
+  -- the whole search of a query that is not refused: the visits from the empty sequence on, over what is lent
+  pub explored-whole : (limits : Limits) → limits ≡ record { positions = set .positions; count = set .count; reach = query .reach; «max_cost» = query .maxCost; «step_limit» = query .stepLimit }
+      → Explored set query
+      (visitsFrom (map (λ rule. rule .condition) (set .rules)) (map (λ rule. rule .effect) (set .rules)) (map (λ rule. rule .cost) (set .rules)) blocked (query .goal) limits (query .maxMoves) []
+      (startState query) noProgress)
+  unfolding visitsFrom mayGoOn
+  explored-whole limits e = rw e (subst (Explored set query) (sym (ap₂ visits (lent-step set) (lent-cost set))) visits-explored)

@@ -1,0 +1,99 @@
+-- What the search lends to itself is as the recursion asks, for a query that is not refused: the rules' lines and the start are zero beyond the positions, the look-up has every index, and
+-- the empty sequence has been reached.
+-- Assumes nothing.
+use mathlib.Core.Path.{_≡_, refl, sym, subst}
+use mathlib.Core.Logic.{⊎-elim}
+use mathlib.Core.List.{List, map}
+use Prim.Native.Nat.{ℕ, _*_, _-_, _≤_, _<_}
+use native.Mathlib.Omega.{arith}
+use lib.ListN.{length, getD, replicate, List·getD-map, List·getD-eq-default}
+use Rattle.theory_spec.proofs.TestLaws.{below?}
+use Rattle.model_spec.specs.Rules.{noRule, StateOf}
+use Rattle.model_spec.specs.Validity.{WellFormed, EntryValid}
+use Rattle.model_spec.specs.declared.RuleSet.{RuleSet}
+use Rattle.model_spec.proofs.StateLaws.{width-beyond}
+use Rattle.model_spec.proofs.ValidityLaws.{valid-width-position}
+use Rattle.tables_spec.specs.Table.{sequenceCount, tableEntries}
+use Rattle.tables_spec.proofs.TableLaws.{entries-bound}
+use Rattle.tables_spec.proofs.ReachLaws.{near-entries}
+use Rattle.search_spec.specs.Query.{Query, startState}
+use Rattle.search_spec.specs.Searched.{noMove, NotRefused, WellPosed}
+use Rattle.search_spec.proofs.VisitedLaws.{start-fits-iff}
+use Rattle.search_spec.proofs.Demand.{blank-buffer}
+use Rattle.search_spec.proofs.PlanVisited.{start-state}
+use Rattle.search_spec.proofs.MeaningLaws.{not-refused-iff}
+use Rattle.search_laws.specs.Visits.{ZerosFrom, Lent, Reached}
+use Rattle.search_laws.specs.declared.Limits.{Limits}
+
+module _ (set : RuleSet) (v : WellFormed set) where
+  -- an entry beyond the positions is 0: a variable there would have the size of a position, which is at least 2
+  entry-beyond : (condition : List ℕ) (i e : ℕ) → set .positions ≤ i → EntryValid (set .positions) (set .sizes) condition i e → e ≡ 0
+  entry-beyond condition i e h k =
+      let one = width-beyond (set .positions) (set .sizes) i h in
+      ⊎-elim (λ (b : e < 16). omega (arith, k .constant b, one)) (λ (b : 16 ≤ e). absurd (omega (arith, k .equalSizes b, valid-width-position set v (e - 16) (k .position b), one))) (below? e 16)
+
+  -- so a line of a rule has only zeros there
+  line-beyond : (condition line : List ℕ) → length line ≡ 16 → ((i : ℕ) → i < 16 → EntryValid (set .positions) (set .sizes) condition i (getD line i 0)) → ZerosFrom (set .positions) line
+  line-beyond condition line size entries i h =
+      ⊎-elim (λ b. entry-beyond condition i (getD line i 0) h (entries i b)) (λ b. List·getD-eq-default line 0 {n = i} (omega (arith, size))) (below? i 16)
+
+  -- and so has a state of the set's sizes
+  state-beyond : (s : List ℕ) → StateOf set s → ZerosFrom (set .positions) s
+  state-beyond s k i h =
+      ⊎-elim (λ (b : i < 16). omega (arith, k .1 i b, width-beyond (set .positions) (set .sizes) i h)) (λ b. List·getD-eq-default s 0 {n = i} (omega (arith, k .0))) (below? i 16)
+
+module _ (set : RuleSet) (query : Query) (notRefused : NotRefused set query) where
+  -- what the search goes by
+  abbrev pub limits : Limits
+  limits = record { positions = set .positions; count = set .count; reach = query .reach; «max_cost» = query .maxCost; «step_limit» = query .stepLimit }
+
+  judged : WellPosed set query
+  judged = not-refused-iff set query .0 notRefused
+
+  valid : WellFormed set
+  valid = judged .0 .0 .0 .0 .0 .0 .formed
+
+  -- the start fits a state, and the table the look-up
+  pub start-fits : length (query .start) ≤ 16
+  start-fits = omega (arith, judged .0 .0 .0 .0 .1 .0, valid .positionLimits)
+
+  pub table-fits : (1 ≤ set .count) × (set .count ≤ 31) × (length (query .table) ≤ 2 * sequenceCount (set .count) 3) × (length (query .table) ≤ 2 * 30784)
+  unfolding tableEntries
+  table-fits =
+      let ready = judged .0 .0 .0 .0 .0 in
+      let c = valid .countLimits in (
+        c .0,
+        c .1,
+        omega (arith, ready .1 .1, near-entries set (query .reach) (ready .1 .0 .1)),
+        omega (arith, ready .1 .1, entries-bound set (query .reach) (c .1) (ready .1 .0 .1)),
+      )
+
+  -- what stays the same all through
+  pub lent-whole : Lent (map (λ rule. rule .condition) (set .rules)) (map (λ rule. rule .effect) (set .rules)) (query .goal) limits
+  lent-whole =
+      let goal = judged .0 .0 .0 in
+      record {
+        positionLimit = valid .positionLimits .1;
+        countLimits = valid .countLimits;
+        reachLimits = goal .0 .0 .1 .0;
+        goalLimit = omega (arith, goal .1 .0, valid .positionLimits);
+        conditionEnds = λ k h.
+            let w = valid .lines k h in
+            subst (ZerosFrom (set .positions)) (sym (List·getD-map (λ rule. rule .condition) (set .rules) k noRule))
+            (line-beyond set valid (getD (set .rules) k noRule .condition) (getD (set .rules) k noRule .condition) (w .conditionLength) (w .conditionEntries));
+        effectEnds = λ k h.
+            let w = valid .lines k h in
+            subst (ZerosFrom (set .positions)) (sym (List·getD-map (λ rule. rule .effect) (set .rules) k noRule))
+            (line-beyond set valid (getD (set .rules) k noRule .condition) (getD (set .rules) k noRule .effect) (w .effectLength) (w .effectEntries));
+      }
+
+  -- the empty sequence is reached at the start
+  pub reached-first : (costs : List ℕ) → Reached costs limits (startState query) (replicate 32 noMove) 0 0 (query .maxMoves)
+  reached-first costs =
+      record {
+        room = omega (arith, judged .0 .0 .1);
+        rest = sym (blank-buffer 32);
+        rules = tt;
+        total = refl;
+        stateEnd = state-beyond set valid (startState query) (start-state set query valid (start-fits-iff set (query .start) .1 (judged .0 .0 .0 .0 .1)));
+      }

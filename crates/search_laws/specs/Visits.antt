@@ -1,0 +1,106 @@
+-- How the search goes about it, over what it lends to itself: the rules' lines and costs, the look-up, the goal and the limits. No promise of a public call mentions this file;
+-- the laws in proofs/ equate it with the definitions of `search_spec`.
+use mathlib.Core.Path.{_≡_}
+use mathlib.Core.Bool.{Bool, true, false, not, cond, _&&_, _||_}
+use mathlib.Core.Option.{Option, some, none}
+use mathlib.Core.List.{List, []}
+use Prim.Native.Nat.{ℕ, _+_, _-_, _≤_, _<_, min}
+use lib.Dec.{leb, ltb, eqb}
+use lib.ListN.{length, getD, take, drop, replicate}
+use Rattle.theory_spec.specs.Lists.{onlyIf, padded}
+use Rattle.theory_spec.specs.Sequences.{Sequence, costOf, Numbered}
+use Rattle.theory_spec.specs.Indices.{indexOf}
+use Rattle.theory_spec.specs.Plans.{reaches}
+use Rattle.theory_spec.specs.Recursion.{last, exploreWith, best, leastCost}
+use Rattle.model_spec.specs.States.{State, applicable, successor}
+use Rattle.model_spec.specs.Rules.{stepOf, ruleCost, sequenceCost}
+use Rattle.model_spec.specs.declared.RuleSet.{RuleSet}
+use Rattle.search_spec.specs.Query.{Query, startState, meetsGoal, visitedBy}
+use Rattle.search_spec.specs.Searched.{noMove, cheapestPlan}
+use Rattle.search_laws.specs.declared.Best.{Best}
+use Rattle.search_laws.specs.declared.Progress.{Progress}
+use Rattle.search_laws.specs.declared.Limits.{Limits}
+
+-- ── One rule more ────────────────────────────────────────────────────────────────────────────────
+
+-- the state that rule r leads to, by the conditions and effects
+unfoldable pub lentStep : List (List ℕ) → List (List ℕ) → ℕ → State → Option State
+lentStep conditions effects r s = onlyIf (applicable (getD conditions (r - 1) []) s) (successor (getD effects (r - 1) []) s)
+
+-- what rule r costs
+unfoldable pub lentCost : List ℕ → ℕ → ℕ
+lentCost costs r = getD costs (r - 1) 0
+
+-- the search may go on to q: it costs no more than the cost bound, and the look-up at the index of its last `reach` rules finds no mark
+unfoldable pub mayGoOn : List ℕ → List ℕ → Limits → Sequence → Bool
+mayGoOn costs blocked limits q = leb (costOf (lentCost costs) q) (limits .«max_cost») && eqb (getD blocked (indexOf (limits .count) (last (limits .reach) q)) 0) 0
+
+-- ── What the search carries along ────────────────────────────────────────────────────────────────
+
+-- a plan of n moves at a cost replaces the best so far: there is none yet, or it is cheaper, or costs the same and is shorter
+unfoldable pub replaces : Best → ℕ → ℕ → Bool
+replaces best cost n = not (best .found) || (ltb cost (best .cost) || (eqb cost (best .cost) && ltb n (best .length)))
+
+-- a sequence, at its cost, as the best plan; and no plan
+unfoldable pub bestOf : ℕ → Sequence → Best
+bestOf cost q = record { found = true; cost = cost; length = length q; moves = padded 32 noMove q }
+
+unfoldable pub noBest : Best
+noBest = record { found = false; cost = 0; length = 0; moves = replicate 32 noMove }
+
+-- the best plan after q, which costs so much and has led to the state s
+unfoldable pub bestAt : List ℕ → ℕ → Sequence → State → Best → Best
+bestAt goal cost q s best = cond (meetsGoal goal s && replaces best cost (length q)) (bestOf cost q) best
+
+-- what visiting q makes of the progress: one step more, if the limit allows it; else the limit is exceeded, and the floor is no higher than the sequence's cost
+unfoldable pub noted : List ℕ → ℕ → ℕ → Sequence → State → Progress → Progress
+noted goal limit cost q s p =
+    cond (ltb (p .steps) limit) (record { steps = p .steps + 1; exceeded = false; best = bestAt goal cost q s (p .best); floor = p .floor })
+    (record { steps = p .steps; exceeded = true; best = p .best; floor = min (p .floor) cost })
+
+-- the progress before any sequence is visited
+unfoldable pub noProgress : Progress
+noProgress = record { steps = 0; exceeded = false; best = noBest; floor = 65535 }
+
+-- the progress after the sequence q, which has led to the state s, and all that extends it by at most n rules
+unfoldable pub visitsFrom : List (List ℕ) → List (List ℕ) → List ℕ → List ℕ → List ℕ → Limits → ℕ → Sequence → State → Progress → Progress
+visitsFrom conditions effects costs blocked goal limits =
+    exploreWith (lentStep conditions effects) (limits .count) (λ q _. mayGoOn costs blocked limits q) (λ q. noted goal (limits .«step_limit») (costOf (lentCost costs) q) q)
+
+-- ── What the recursion asks ──────────────────────────────────────────────────────────────────────
+
+-- only zeros from a place on
+abbrev pub ZerosFrom : ℕ → List ℕ → Type 0
+ZerosFrom n l = (i : ℕ) → n ≤ i → getD l i 0 ≡ 0
+
+-- what stays the same all through: numbers within their limits, and rules whose lines are zero beyond the positions
+pub record Lent (conditions effects : List (List ℕ)) (goal : List ℕ) (limits : Limits) : Type 0 where
+  pub positionLimit : limits .positions ≤ 16
+  pub countLimits : (1 ≤ limits .count) × (limits .count ≤ 31)
+  pub reachLimits : (1 ≤ limits .reach) × (limits .reach ≤ 3)
+  pub goalLimit : length goal ≤ 16
+  pub conditionEnds : (k : ℕ) → k < limits .count → ZerosFrom (limits .positions) (getD conditions k [])
+  pub effectEnds : (k : ℕ) → k < limits .count → ZerosFrom (limits .positions) (getD effects k [])
+
+-- the first n moves of the plan are the sequence so far: rules of the set, at that cost, with at most `left` moves to come; the rest of the plan is blank, and the state ends in zeros
+pub record Reached (costs : List ℕ) (limits : Limits) (state plan : List ℕ) (n cost left : ℕ) : Type 0 where
+  pub room : n + left ≤ 32
+  pub rest : plan ≡ padded 32 noMove (take n plan)
+  pub rules : Numbered (limits .count) (take n plan)
+  pub total : cost ≡ costOf (lentCost costs) (take n plan)
+  pub stateEnd : ZerosFrom (limits .positions) state
+
+-- ── What the whole search comes to ───────────────────────────────────────────────────────────────
+
+-- a plan, or none, as the best one
+unfoldable pub asBest : (Sequence → ℕ) → Option Sequence → Best
+asBest cost none = noBest
+asBest cost (some q) = bestOf (cost q) q
+
+-- the steps are the visited sequences up to the limit; the best plan is the best of these, and the floor the least cost of the others; if there are no others, the best plan is the cheapest of all
+pub record Explored (set : RuleSet) (query : Query) (progress : Progress) : Type 0 where
+  pub steps : progress .steps ≡ min (length (visitedBy set query)) (query .stepLimit)
+  pub exceeded : progress .exceeded ≡ ltb (query .stepLimit) (length (visitedBy set query))
+  pub looked : progress .best ≡ asBest (sequenceCost set) (best (ruleCost set) (reaches (stepOf set) (startState query) (meetsGoal (query .goal))) none (take (query .stepLimit) (visitedBy set query)))
+  pub best : length (visitedBy set query) ≤ query .stepLimit → progress .best ≡ asBest (sequenceCost set) (cheapestPlan set query)
+  pub floor : progress .floor ≡ leastCost (ruleCost set) 65535 (drop (query .stepLimit) (visitedBy set query))

@@ -1,0 +1,136 @@
+-- How the outcome of a query comes about: the check of its table first, whose last refusal waits for the query's own causes; and what a search leaves with each outcome.
+-- Assumes nothing.
+use mathlib.Core.Path.{_≡_, refl, sym, ap, _∙_}
+use mathlib.Core.Logic.{_⊎_, _≢_, ⊎-elim}
+use mathlib.Core.Bool.{Bool, true, false, not, cond}
+use mathlib.Core.Option.{some, none}
+use mathlib.Core.List.{List, [], _∷_, _++_}
+use Prim.Native.Nat.{ℕ, min, _≤_, _<_}
+use native.Mathlib.Omega.{arith}
+use lib.Dec.{ltb}
+use lib.ListN.{length, replicate}
+use borrow.Author.Tests.{lt-ltb, le-ltb, ne-eqb}
+use Rattle.theory_spec.specs.Lists.{padded}
+use Rattle.theory_spec.specs.Sequences.{Sequence}
+use Rattle.model_spec.specs.Refusals.{Cause, firstRefusal}
+use Rattle.model_spec.specs.Rules.{sequenceCost}
+use Rattle.model_spec.specs.declared.RuleSet.{RuleSet}
+use Rattle.model_spec.proofs.RefusalLaws.{refusal-append, refusal-before}
+use Rattle.tables_spec.specs.Table.{accepted}
+use Rattle.tables_spec.specs.Answers.{tableCauses, buildOutcome, checkCauses, checkOutcome, Ready}
+use Rattle.tables_spec.proofs.AnswerLaws.{build-ready-iff, check-meaning}
+use Rattle.search_spec.specs.Query.{Query, startFits, goalFits, visitedBy}
+use Rattle.search_spec.specs.Searched.{queryCauses, cheapestPlan, isAnswer, shownPlan, noMove, Searched, searchedWith, searched}
+use Rattle.search_spec.proofs.Demand.{blank-buffer, limited-outcome, unlimited-outcome, shown-plan}
+use Rattle.search_spec.proofs.MeaningLaws.{refused-outcome, refused-no-answer}
+
+-- ── The check of the table, and the query's own causes ───────────────────────────────────────────
+
+-- the last cause of a table and of a query: the table is not accepted
+abbrev pub unaccepted : RuleSet → Query → Cause
+unaccepted set query = (14, not (accepted set (query .reach) (query .table)))
+
+-- the causes of a query alone, in turn, and then that its table is not accepted
+abbrev pub ownCauses : RuleSet → Query → List Cause
+ownCauses set query =
+    (9, not (startFits set (query .start))) ∷ (10, not (goalFits set (query .goal))) ∷ (11, ltb 32 (query .maxMoves)) ∷ (12, ltb (query .planSize) (query .maxMoves)) ∷ unaccepted set query ∷ []
+
+module _ (set : RuleSet) (query : Query) where
+  abbrev shared : List Cause
+  shared = tableCauses set (query .reach) (length (query .table))
+
+  abbrev checked : ℕ
+  checked = checkOutcome set (query .reach) (query .table)
+
+  -- once what is shared is judged, later causes decide
+  past-shared : Ready set (query .reach) (length (query .table)) → (later : List Cause) → firstRefusal (shared ++ later) ≡ firstRefusal later
+  unfolding tableCauses buildOutcome
+  past-shared r later = refusal-append shared later (λ e. omega arith, (λ e. omega arith, (λ e. omega arith, tt))) (build-ready-iff set (query .reach) (length (query .table)) .1 r)
+
+  -- a check that passes, or refuses the table's marks, has judged what is shared
+  pub checked-ready : (checked ≡ 14) ⊎ (checked ≡ 0) → Ready set (query .reach) (length (query .table))
+  checked-ready = let m = check-meaning set (query .reach) (query .table) in ⊎-elim (λ e. m .notAccepted .0 e .0) (λ e. m .accepts .0 e .0)
+
+  -- then the query's own causes decide in turn, and last the check's
+  module _ (r : Ready set (query .reach) (length (query .table))) where
+    own-refusal : firstRefusal (ownCauses set query) ≡ firstRefusal (queryCauses set query)
+    unfolding queryCauses tableCauses
+    own-refusal = sym (past-shared r (ownCauses set query))
+
+    pub start-refusal : startFits set (query .start) ≡ false → 9 ≡ firstRefusal (queryCauses set query)
+    start-refusal e = let t : firstRefusal (ownCauses set query) ≡ 9 = rw e in sym t ∙ own-refusal
+
+    module _ (s : startFits set (query .start) ≡ true) where
+      pub goal-refusal : goalFits set (query .goal) ≡ false → 10 ≡ firstRefusal (queryCauses set query)
+      goal-refusal e = let t : firstRefusal (ownCauses set query) ≡ 10 = rw (s, e) in sym t ∙ own-refusal
+
+      module _ (g : goalFits set (query .goal) ≡ true) where
+        pub moves-refusal : 32 < query .maxMoves → 11 ≡ firstRefusal (queryCauses set query)
+        moves-refusal h = let t : firstRefusal (ownCauses set query) ≡ 11 = rw (s, g, lt-ltb 32 (query .maxMoves) h) in sym t ∙ own-refusal
+
+        module _ (m : query .maxMoves ≤ 32) where
+          pub room-refusal : query .planSize < query .maxMoves → 12 ≡ firstRefusal (queryCauses set query)
+          room-refusal h =
+              let t : firstRefusal (ownCauses set query) ≡ 12 = rw (s, g, le-ltb 32 (query .maxMoves) m, lt-ltb (query .planSize) (query .maxMoves) h) in
+              sym t ∙ own-refusal
+
+          pub last-refusal : query .maxMoves ≤ query .planSize → checked ≡ firstRefusal (queryCauses set query)
+          unfolding checkOutcome checkCauses tableCauses
+          last-refusal h =
+              let t : firstRefusal (ownCauses set query) ≡ firstRefusal (unaccepted set query ∷ []) = rw (s, g, le-ltb 32 (query .maxMoves) m, le-ltb (query .planSize) (query .maxMoves) h) in
+              past-shared r (unaccepted set query ∷ []) ∙ sym t ∙ own-refusal
+
+  -- any other refusal of the check is the query's
+  pub shared-refusal : checked ≢ 0 → checked ≢ 14 → checked ≡ firstRefusal (queryCauses set query)
+  unfolding checkOutcome checkCauses queryCauses tableCauses buildOutcome
+  shared-refusal h₀ h₁₄ = refusal-before shared (unaccepted set query ∷ []) refused ∙ sym (refusal-before shared (ownCauses set query) refused)
+    where
+      one-of : (b : Bool) → firstRefusal ((14, not b) ∷ []) ≢ 0 → firstRefusal ((14, not b) ∷ []) ≢ 14 → ⊥
+      one-of true h _ = h refl
+      one-of false _ h = h refl
+
+      refused : firstRefusal shared ≢ 0
+      refused e =
+          let m = past-shared (build-ready-iff set (query .reach) (length (query .table)) .0 e) (unaccepted set query ∷ []) in
+          one-of (accepted set (query .reach) (query .table)) (λ k. h₀ (m ∙ k)) (λ k. h₁₄ (m ∙ k))
+
+-- ── What a search leaves with each outcome ───────────────────────────────────────────────────────
+
+module _ (set : RuleSet) (query : Query) where
+  abbrev refusal : ℕ
+  refusal = firstRefusal (queryCauses set query)
+
+  abbrev count : ℕ
+  count = length (visitedBy set query)
+
+  -- with a plan
+  abbrev pub withPlan : Sequence → ℕ → Searched
+  withPlan p steps = record { answer = record { outcome = 0; cost = sequenceCost set p; length = length p; steps = steps }; plan = padded (query .planSize) noMove p }
+
+  -- without one
+  abbrev pub withoutPlan : ℕ → ℕ → Searched
+  withoutPlan outcome steps = record { answer = record { outcome = outcome; cost = 0; length = 0; steps = steps }; plan = replicate (query .planSize) noMove }
+
+  shown-none : (outcome : ℕ) → outcome ≢ 0 → searchedWith set query outcome ≡ withoutPlan outcome (cond (isAnswer outcome) (min count (query .stepLimit)) 0)
+  unfolding searchedWith shownPlan sequenceCost
+  shown-none outcome h = rw (ne-eqb outcome 0 h, blank-buffer (query .planSize))
+
+  pub searched-refused : refusal ≢ 0 → searched set query ≡ withoutPlan refusal 0
+  unfolding searched
+  searched-refused h =
+      ap (searchedWith set query) (refused-outcome set query h) ∙ shown-none refusal h
+      ∙ ap (λ b. withoutPlan refusal (cond b (min count (query .stepLimit)) 0)) (refused-no-answer set query h)
+
+  module _ (h : refusal ≡ 0) where
+    pub searched-limited : ltb (query .stepLimit) count ≡ true → searched set query ≡ withoutPlan 16 (min count (query .stepLimit))
+    unfolding searched
+    searched-limited e = ap (searchedWith set query) (limited-outcome set query h e) ∙ shown-none 16 (λ k. omega arith)
+
+    pub searched-unsolvable : ltb (query .stepLimit) count ≡ false → cheapestPlan set query ≡ none → searched set query ≡ withoutPlan 15 (min count (query .stepLimit))
+    unfolding searched
+    searched-unsolvable e k = ap (searchedWith set query) (unlimited-outcome set query h e none k) ∙ shown-none 15 (λ k. omega arith)
+
+    pub searched-solved : ltb (query .stepLimit) count ≡ false → (p : Sequence) → cheapestPlan set query ≡ some p → searched set query ≡ withPlan p (min count (query .stepLimit))
+    unfolding searched searchedWith
+    searched-solved e p k =
+        ap (searchedWith set query) (unlimited-outcome set query h e (some p) k) ∙ ap (λ q. withPlan q (min count (query .stepLimit))) (shown-plan set query p k)

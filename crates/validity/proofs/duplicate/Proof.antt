@@ -1,0 +1,25 @@
+-- `validity::duplicate` meets its contract.
+-- Assumes nothing.
+use borrow.Author.Needs.{needs}
+use Rattle.model_spec.specs.Validity.{duplicate}
+use Rattle.model_spec.proofs.LoopLaws.{failed, passed}
+use Rattle.validity.proofs.duplicate.Statement.{statement}
+use Rattle.validity.proofs.duplicate.Tie as tie
+
+same-entries-requires : tie.Need-same-entries-requires
+same-entries-requires c κs = search needs
+
+returns : tie.Need-returns
+unfolding duplicate
+returns c = rw (failed (c .before .same-entries .ensures) (c .if1 .taken))
+
+same-entries-requires-2 : tie.Need-same-entries-requires-2
+same-entries-requires-2 c κs = search needs
+
+returns-2 : tie.Need-returns-2
+unfolding duplicate
+returns-2 c = rw (passed (c .before .before .before .before .before .before .same-entries .ensures) (c .before .before .before .before .before .if1 .left)) (c .same-entries2 .ensures)
+
+pub duplicate-spec : {M : Type 1} → statement M
+duplicate-spec =
+    tie.close (tie.spec same-entries-requires returns same-entries-requires-2 returns-2)

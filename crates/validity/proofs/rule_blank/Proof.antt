@@ -1,0 +1,30 @@
+-- `validity::rule_blank` meets its contract: each return by the tests on the way to it.
+-- Assumes nothing.
+use borrow.Author.Tests.{eq-eqb, ne-eqb}
+use borrow.Author.Needs.{needs}
+use Rattle.model_spec.specs.Validity.{ruleBlank}
+use Rattle.model_spec.proofs.LoopLaws.{failed, passed}
+use Rattle.validity.proofs.rule_blank.Statement.{statement}
+use Rattle.validity.proofs.rule_blank.Tie as tie
+
+returns : tie.Need-returns
+unfolding ruleBlank
+returns c = rw (ne-eqb _ _ (c .if1 .taken))
+
+same-entries-requires : tie.Need-same-entries-requires
+same-entries-requires c κs = search needs
+
+returns-2 : tie.Need-returns-2
+unfolding ruleBlank
+returns-2 c = rw (eq-eqb _ _ (c .before .before .before .before .before .if1 .left), failed (c .before .same-entries .ensures) (c .if2 .taken))
+
+same-entries-requires-2 : tie.Need-same-entries-requires-2
+same-entries-requires-2 c κs = search needs
+
+returns-3 : tie.Need-returns-3
+unfolding ruleBlank
+returns-3 c = rw (eq-eqb _ _ (c .before .before .before .before .before .before .before .before .before .if1 .left), passed (c .before .before .before .before .before .same-entries .ensures) (c .before .before .before .before .if2 .left)) (c .same-entries2 .ensures)
+
+pub rule-blank-spec : {M : Type 1} → statement M
+rule-blank-spec =
+    tie.close (tie.spec returns same-entries-requires returns-2 same-entries-requires-2 returns-3)

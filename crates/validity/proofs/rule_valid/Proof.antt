@@ -1,0 +1,26 @@
+-- `validity::rule_valid` meets its contract. A cost is a byte, so it is at most 255.
+-- Assumes nothing.
+use borrow.Author.Tests.{le-leb}
+use borrow.Author.Needs.{needs}
+use Rattle.model_spec.specs.Validity.{ruleValid}
+use Rattle.model_spec.proofs.LoopLaws.{failed, passed}
+use Rattle.validity.proofs.rule_valid.Statement.{statement}
+use Rattle.validity.proofs.rule_valid.Tie as tie
+
+condition-valid-requires : tie.Need-condition-valid-requires
+condition-valid-requires c κs = search needs
+
+returns : tie.Need-returns
+unfolding ruleValid
+returns c = rw (le-leb (c .before .before .before .before .before .args .rule .cost) 255 (search needs), failed (c .before .condition-valid .ensures) (c .if1 .taken))
+
+effect-valid-requires : tie.Need-effect-valid-requires
+effect-valid-requires c κs = search needs
+
+returns-2 : tie.Need-returns-2
+unfolding ruleValid
+returns-2 c = rw (le-leb (c .before .before .before .before .before .before .before .before .args .rule .cost) 255 (search needs), passed (c .before .before .before .before .condition-valid .ensures) (c .before .before .before .if1 .left)) (c .effect-valid .ensures)
+
+pub rule-valid-spec : {M : Type 1} → statement M
+rule-valid-spec =
+    tie.close (tie.spec condition-valid-requires returns effect-valid-requires returns-2)
