@@ -222,7 +222,7 @@ fn print_redundancy(set: RuleSet, moves: &[u8], witness: &[u8])
 {
     let sequence = composed(set, moves);
     let cost = cost_of(set, moves);
-    if macros::redundancy::is_redundant(set, sequence, cost, witness) {
+    if redundancy::is_redundant(set, sequence, cost, witness) {
         print(b"yes");
         return;
     }

@@ -11,13 +11,13 @@ ghost use lib.Dec.{ltb};
 ghost use Rattle.model_spec.specs.States.{valueOf, valuesOf};
 ghost use Rattle.macros_spec.specs.Composition.{ownVariables, emptyLines, replaced, unified, extended, asVectors, linesOf};
 
-pub fn larger(x: u8, y: u8) -> u8
+fn larger(x: u8, y: u8) -> u8
     ensures { λ r. ⌜ r ≡ max x y ⌝ }
 {
     if x < y { y } else { x }
 }
 
-pub fn smaller(x: u8, y: u8) -> u8
+fn smaller(x: u8, y: u8) -> u8
     ensures { λ r. ⌜ r ≡ min x y ⌝ }
 {
     if x < y { x } else { y }

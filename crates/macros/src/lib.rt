@@ -1,22 +1,17 @@
 // Macros of sequences.
-pub mod redundancy;
-
 use composition::empty;
 use composition::extended;
 use macros_spec::Macro;
 use macros_spec::MacroAnswer;
 use macros_spec::Vectors;
-use model_spec::Rule;
 use model_spec::RuleSet;
+use moves::cost_of;
+use moves::has_unknown_move;
+use moves::rule_at;
 use validity::is_valid;
 ghost use mathlib.Core.Path.{_≡_};
-ghost use mathlib.Core.Bool.{not};
-ghost use Prim.Native.Nat.{_≤_};
-ghost use lib.ListN.{length};
-ghost use Rattle.theory_spec.specs.Lists.{any, within};
 ghost use Rattle.theory_spec.specs.Sequences.{Numbered};
 ghost use Rattle.model_spec.specs.Refusals.{firstRefusal};
-ghost use Rattle.model_spec.specs.Rules.{ruleAt, sequenceCost};
 ghost use Rattle.model_spec.specs.Validity.{WellFormed};
 ghost use Rattle.macros_spec.specs.Composition.{composed, asVectors};
 ghost use Rattle.macros_spec.specs.Answers.{sequenceCauses, blankMacro, macroWith, macroAnswer, Meaning};
@@ -35,53 +30,26 @@ fn refused(outcome: u8) -> MacroAnswer
     }
 }
 
-// Whether some move is no number from 1 to `count`.
-fn has_unknown_move(count: u8, moves: &[u8]) -> bool
-    ensures { λ r. ⌜ r ≡ any (λ n. not (within 1 count n)) (now (moves .entry)) ⌝ }
+// The vectors of a sequence.
+fn composed(set: RuleSet, moves: &[u8]) -> Vectors
+    requires { ⌜ Numbered 31 (now moves) ⌝ }
+    ensures { λ r. ⌜ r ≡ asVectors (composed set (now (moves .entry))) ⌝ }
 {
-    let mut i: usize = 0;
-    while i < moves.len() {
-        let number = moves[i];
-        if number < 1 {
-            return true;
-        }
-        if count < number {
-            return true;
-        }
-        i += 1;
-    }
-    false
-}
-
-// The rule of a number.
-fn rule_at(set: RuleSet, number: u8) -> Rule
-    requires { ⌜ (1 ≤ number) × (number ≤ 31) ⌝ }
-    ensures { λ r. ⌜ r ≡ ruleAt set number ⌝ }
-{
-    let place = (number - 1) as usize;
-    set.rules[place]
-}
-
-// What a sequence of at most 32 rules costs.
-fn cost_of(set: RuleSet, moves: &[u8]) -> u16
-    requires { ⌜ (length (now moves) ≤ 32) × Numbered 31 (now moves) ⌝ }
-    ensures { λ r. ⌜ r ≡ sequenceCost set (now (moves .entry)) ⌝ }
-{
-    let mut total: u16 = 0;
+    let mut sequence = empty(set);
     let mut i: usize = 0;
     while i < moves.len() {
         let rule = rule_at(set, moves[i]);
-        let cost = rule.cost as u16;
-        total = total + cost;
+        sequence = extended(sequence, rule);
         i += 1;
     }
-    total
+    sequence
 }
 
 // The macro of a sequence once the set is judged.
 fn macro_for(set: RuleSet, moves: &[u8]) -> MacroAnswer
     requires { ⌜ WellFormed set ⌝ }
-    ensures { λ r. ⌜ r ≡ macroWith set (now (moves .entry)) (firstRefusal (sequenceCauses set (now (moves .entry)))) ⌝ }
+    ensures { λ r. ⌜
+        r ≡ macroWith set (now (moves .entry)) (firstRefusal (sequenceCauses set (now (moves .entry)))) ⌝ }
 {
     if 32 < moves.len() {
         return refused(11);
@@ -95,7 +63,7 @@ fn macro_for(set: RuleSet, moves: &[u8]) -> MacroAnswer
     }
     let condition = composition.condition;
     let effect = composition.effect;
-    let cost = cost_of(set, moves);
+    let cost = cost_of(set, moves) as u16;
     MacroAnswer {
         outcome: 0,
         result: Macro {
@@ -108,25 +76,12 @@ fn macro_for(set: RuleSet, moves: &[u8]) -> MacroAnswer
 
 // The macro of a sequence of rule numbers.
 pub fn macro_of(set: RuleSet, moves: &[u8]) -> MacroAnswer
-    ensures { λ r. ⌜ (r ≡ macroAnswer set (now (moves .entry))) × Meaning set (now (moves .entry)) r ⌝ }
+    ensures { λ r. ⌜
+        (r ≡ macroAnswer set (now (moves .entry)))
+        × Meaning set (now (moves .entry)) r ⌝ }
 {
     if !is_valid(set) {
         return refused(7);
     }
     macro_for(set, moves)
-}
-
-// The vectors of a sequence.
-pub(crate) fn composed(set: RuleSet, moves: &[u8]) -> Vectors
-    requires { ⌜ Numbered 31 (now moves) ⌝ }
-    ensures { λ r. ⌜ r ≡ asVectors (composed set (now (moves .entry))) ⌝ }
-{
-    let mut sequence = empty(set);
-    let mut i: usize = 0;
-    while i < moves.len() {
-        let rule = rule_at(set, moves[i]);
-        sequence = extended(sequence, rule);
-        i += 1;
-    }
-    sequence
 }

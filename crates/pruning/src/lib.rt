@@ -3,8 +3,8 @@ mod sequences;
 mod witnesses;
 
 use buffers::fill_from;
-use macros::redundancy::is_redundant;
 use model_spec::RuleSet;
+use redundancy::is_redundant;
 use sequences::profile_at;
 use sequences::sequence_at;
 use sequences::sequence_count;

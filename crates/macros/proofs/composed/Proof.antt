@@ -1,13 +1,13 @@
 -- `macros::composed` meets its contract. The invariant: the vectors so far are those of the first i moves.
 -- Assumes nothing.
-use mathlib.Core.Path.{_≡_}
+use mathlib.Core.Path.{_≡_, _∙_}
 use Prim.Native.Nat.{_≤_, _-_}
 use native.Mathlib.Omega.{arith}
 use lib.ListN.{length, take}
 use borrow.Author.Needs.{needs}
 use Rattle.macros_spec.specs.Composition.{emptyLines, composed, composedFrom, asVectors}
 use Rattle.macros_spec.proofs.CompositionLoopLaws.{compose-go, compose-end}
-use Rattle.macros_spec.proofs.MoveLaws.{numbered-at}
+use Rattle.macros_spec.proofs.MoveLaws.{numbered-at, rule-among}
 use Rattle.macros.proofs.composed.Statement.{statement}
 use Rattle.macros.proofs.composed.Tie as tie
 
@@ -28,10 +28,7 @@ shared-slice-read-rule-at : tie.Need-shared-slice-read-rule-at Inv-loop μ-loop
 shared-slice-read-rule-at c = search needs
 
 rule-at-requires : tie.Need-rule-at-requires Inv-loop μ-loop
-rule-at-requires c κs =
-    let l = c .before .before in
-    let s = l .before .before .before in
-    numbered-at 31 (s .args .moves .now) (l .loop .i) (s .pre) (omega arith)
+rule-at-requires c κs = search needs
 
 extended-requires : tie.Need-extended-requires Inv-loop μ-loop
 extended-requires c κs = search needs
@@ -45,8 +42,13 @@ loop-less c = search needs
 loop-again : tie.Need-loop-again Inv-loop μ-loop
 loop-again c =
     let l = c .before .before .before .before in
-    let a = l .before .before .before .args in
-    (search needs, compose-go (a .set) (a .moves .now) (l .loop .i) (l .loop .sequence) (l .loop .inv .1) _ _ (c .before .rule-at .ensures) (c .extended .ensures) (omega arith))
+    let s = l .before .before .before in
+    let a = s .args in
+    let number = numbered-at 31 (a .moves .now) (l .loop .i) (s .pre) (omega arith) in (
+      search needs,
+      compose-go (a .set) (a .moves .now) (l .loop .i) (l .loop .sequence) (l .loop .inv .1) _ _
+          (c .before .rule-at .ensures ∙ rule-among (a .set) _ (number .1)) (c .extended .ensures) (omega arith),
+    )
 
 returns : tie.Need-returns Inv-loop μ-loop
 returns c =

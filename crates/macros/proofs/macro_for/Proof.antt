@@ -2,13 +2,17 @@
 -- Assumes nothing.
 use mathlib.Core.Path.{_≡_, sym, _∙_}
 use mathlib.Core.Bool.{false, not}
-use Prim.Native.Nat.{ℕ}
+use Prim.Native.Nat.{ℕ, _≤_}
+use native.Mathlib.Omega.{arith}
+use lib.ListN.{length}
 use borrow.Author.Tests.{not-true, not-false}
 use borrow.Author.Needs.{needs}
 use Rattle.theory_spec.specs.Lists.{any, within}
 use Rattle.theory_spec.specs.Sequences.{Sequence, Numbered}
+use Rattle.model_spec.specs.Rules.{sequenceCost}
 use Rattle.model_spec.specs.Validity.{WellFormed}
 use Rattle.model_spec.specs.declared.RuleSet.{RuleSet}
+use Rattle.model_spec.proofs.ValidityLaws.{valid-cost}
 use Rattle.macros_spec.specs.Answers.{blankMacro}
 use Rattle.macros_spec.specs.declared.MacroAnswer.{MacroAnswer}
 use Rattle.macros_spec.proofs.MoveLaws.{no-unknown-iff, numbered-wider}
@@ -26,6 +30,10 @@ module _ (set : RuleSet) (moves : Sequence) where
   -- a well-formed set has at most 31 rules
   numbered-31 : WellFormed set → any (λ r. not (within 1 (set .count) r)) moves ≡ false → Numbered 31 moves
   numbered-31 formed numbered = numbered-wider (set .count) 31 moves (formed .countLimits .1) (no-unknown-iff (set .count) moves .0 numbered)
+
+  -- and at most 32 of its rules cost at most 32 times 255
+  cost-small : WellFormed set → length moves ≤ 32 → any (λ r. not (within 1 (set .count) r)) moves ≡ false → sequenceCost set moves ≤ 8160
+  cost-small formed few numbered = omega (arith, valid-cost set formed moves (no-unknown-iff (set .count) moves .0 numbered))
 
 -- ── The proof ────────────────────────────────────────────────────────────────────────────────────
 
@@ -70,11 +78,16 @@ returns-3 c =
     (lines-denied _ _ (made .composed .ensures) (not-true _ (c .before .if3 .taken))))
 
 cost-of-requires : tie.Need-cost-of-requires
-cost-of-requires c κs =
-    let numbered = c .before .before .before .before .before in
+cost-of-requires c κs = search needs
+
+cast-cost : tie.Need-cast-cost
+cast-cost c =
+    let admitted = c .before .before .before in
+    let numbered = admitted .before .before .before in
     let few = numbered .before .before in
     let start = few .before .before in
-    (few .if1 .left, numbered-31 (start .args .set) (start .args .moves .now) (start .pre) (sym (numbered .before .has-unknown-move .ensures) ∙ numbered .if2 .left))
+    let bound = cost-small (start .args .set) (start .args .moves .now) (start .pre) (few .if1 .left) (sym (numbered .before .has-unknown-move .ensures) ∙ numbered .if2 .left) in
+    search needs
 
 returns-4 : tie.Need-returns-4
 returns-4 c =
@@ -84,7 +97,9 @@ returns-4 c =
     let few = numbered .before .before in
     let start = few .before .before in
     let s = start .args in
-    sym (rw (c .cost-of .ensures)
+    let bound = cost-small (s .set) (s .moves .now) (start .pre) (few .if1 .left) (sym (numbered .before .has-unknown-move .ensures) ∙ numbered .if2 .left) in
+    let cost : c .cost-of .result ≡ sequenceCost (s .set) (s .moves .now) = omega (arith, c .cost-of .ensures) in
+    sym (rw cost
     (worked-given (s .set) (s .moves .now) (few .if1 .left) (start .pre) (sym (numbered .before .has-unknown-move .ensures) ∙ numbered .if2 .left) _
     (lines-admitted _ _ (made .composed .ensures) (not-false _ (admitted .if3 .left)))))
 
@@ -101,4 +116,5 @@ macro-for-spec =
     refused-requires-3
     returns-3
     cost-of-requires
+    cast-cost
     returns-4)

@@ -1,4 +1,4 @@
--- `macros::has_unknown_move` meets its contract. The invariant: the moves from i on decide the whole.
+-- `moves::has_unknown_move` meets its contract. The invariant: the moves from i on decide the whole.
 -- Assumes nothing.
 use mathlib.Core.Path.{_≡_, refl}
 use mathlib.Core.Bool.{not}
@@ -8,8 +8,8 @@ use lib.ListN.{length, drop}
 use borrow.Author.Needs.{needs}
 use Rattle.theory_spec.specs.Lists.{any, within}
 use Rattle.macros_spec.proofs.MoveLoopLaws.{unknown-go, unknown-found, unknown-none}
-use Rattle.macros.proofs.has_unknown_move.Statement.{statement}
-use Rattle.macros.proofs.has_unknown_move.Tie as tie
+use Rattle.moves.proofs.has_unknown_move.Statement.{statement}
+use Rattle.moves.proofs.has_unknown_move.Tie as tie
 
 abbrev Inv-loop : tie.InvT-loop
 Inv-loop count moves i₀ i = (i ≤ length moves) × (any (λ n. not (within 1 count n)) (drop i moves) ≡ any (λ n. not (within 1 count n)) moves)

@@ -1,9 +1,9 @@
 // Redundancy of a sequence with another, decided on the first one's vectors.
-use crate::has_unknown_move;
-use crate::rule_at;
-use composition::smaller;
 use macros_spec::Vectors;
 use model_spec::RuleSet;
+use moves::cost_of;
+use moves::has_unknown_move;
+use moves::rule_at;
 use states::after;
 use states::runs;
 use states::same_entries;
@@ -12,25 +12,23 @@ ghost use lib.Dec.{leb};
 ghost use Rattle.theory_spec.specs.Sequences.{Numbered};
 ghost use Rattle.model_spec.specs.Rules.{runIn, sequenceCost};
 ghost use Rattle.macros_spec.specs.Composition.{linesOf};
-ghost use Rattle.macros_spec.specs.Redundancy.{endsIn, redundantByLines, TellsRedundancy};
+ghost use Rattle.macros_spec.specs.Redundancy.{endsIn, lastNumber, redundantByLines, TellsRedundancy};
+
+// The number of a set's last rule, which is at most 31.
+fn last_number(set: RuleSet) -> u8
+    ensures { λ r. ⌜ r ≡ lastNumber set ⌝ }
+{
+    if set.count < 31 {
+        return set.count;
+    }
+    31
+}
 
 // Whether a sequence costs at most this.
 fn costs_at_most(set: RuleSet, moves: &[u8], most: u16) -> bool
-    requires { ⌜ Numbered 31 (now moves) ⌝ }
     ensures { λ r. ⌜ r ≡ leb (sequenceCost set (now (moves .entry))) most ⌝ }
 {
-    let mut left = most;
-    let mut i: usize = 0;
-    while i < moves.len() {
-        let rule = rule_at(set, moves[i]);
-        let cost = rule.cost as u16;
-        if left < cost {
-            return false;
-        }
-        left -= cost;
-        i += 1;
-    }
-    true
+    cost_of(set, moves) <= most as u32
 }
 
 // Whether the rules of a sequence run in turn on a condition, as on a state of entries, and end in the effect.
@@ -56,9 +54,11 @@ fn leads(set: RuleSet, moves: &[u8], condition: [u8; 16], effect: [u8; 16]) -> b
 
 // Whether a sequence with these vectors and this cost is redundant with the witness, a sequence of the set's rules.
 pub fn is_redundant(set: RuleSet, sequence: Vectors, cost: u16, witness: &[u8]) -> bool
-    ensures { λ r. ⌜ (r ≡ redundantByLines set (linesOf sequence) cost (now (witness .entry))) × TellsRedundancy set sequence cost (now (witness .entry)) r ⌝ }
+    ensures { λ r. ⌜
+        (r ≡ redundantByLines set (linesOf sequence) cost (now (witness .entry)))
+        × TellsRedundancy set sequence cost (now (witness .entry)) r ⌝ }
 {
-    let last = smaller(set.count, 31);
+    let last = last_number(set);
     if has_unknown_move(last, witness) {
         return false;
     }

@@ -1,4 +1,4 @@
--- `macros::redundancy::leads` meets its contract. The invariant: whether the moves left lead from the entries to the effect decides the whole.
+-- `redundancy::leads` meets its contract. The invariant: whether the moves left lead from the entries to the effect decides the whole.
 -- Assumes nothing.
 use mathlib.Core.Path.{_≡_, refl, _∙_}
 use Prim.Native.Nat.{_≤_, _-_}
@@ -8,10 +8,10 @@ use borrow.Author.Needs.{needs}
 use Rattle.model_spec.specs.Rules.{runIn}
 use Rattle.model_spec.proofs.LoopLaws.{failed, passed}
 use Rattle.macros_spec.specs.Redundancy.{endsIn}
-use Rattle.macros_spec.proofs.MoveLaws.{numbered-at}
+use Rattle.macros_spec.proofs.MoveLaws.{numbered-at, rule-among}
 use Rattle.macros_spec.proofs.MoveLoopLaws.{leads-go, leads-stop, leads-end}
-use Rattle.macros.proofs.redundancy.leads.Statement.{statement}
-use Rattle.macros.proofs.redundancy.leads.Tie as tie
+use Rattle.redundancy.proofs.leads.Statement.{statement}
+use Rattle.redundancy.proofs.leads.Tie as tie
 
 abbrev Inv-loop : tie.InvT-loop
 Inv-loop set moves effect entries₀ i₀ entries i = (i ≤ length moves) × (endsIn (runIn set (drop i moves) entries) effect ≡ endsIn (runIn set moves entries₀) effect)
@@ -26,9 +26,7 @@ shared-slice-read-rule-at : tie.Need-shared-slice-read-rule-at Inv-loop μ-loop
 shared-slice-read-rule-at c = search needs
 
 rule-at-requires : tie.Need-rule-at-requires Inv-loop μ-loop
-rule-at-requires c κs =
-    let at = c .before .before in
-    numbered-at 31 (at .before .before .args .moves .now) (at .loop .i) (at .before .before .pre) (omega arith)
+rule-at-requires c κs = search needs
 
 runs-requires : tie.Need-runs-requires Inv-loop μ-loop
 runs-requires c κs = search needs
@@ -37,8 +35,9 @@ returns : tie.Need-returns Inv-loop μ-loop
 returns c =
     let at = c .before .before .before .before .before .before .before .before .before in
     let s = at .before .before .args in
+    let number = numbered-at 31 (s .moves .now) (at .loop .i) (at .before .before .pre) (omega arith) in
     leads-stop (s .set) (s .moves .now) (at .loop .i) (at .loop .entries) (s .t4) _ (at .loop .inv .1) _
-    (c .before .before .before .before .before .before .rule-at .ensures) (omega arith)
+    (c .before .before .before .before .before .before .rule-at .ensures ∙ rule-among (s .set) _ (number .1)) (omega arith)
     (failed (c .before .runs .ensures) (c .if1 .taken))
 
 after-requires : tie.Need-after-requires Inv-loop μ-loop
@@ -54,9 +53,11 @@ loop-again : tie.Need-loop-again Inv-loop μ-loop
 loop-again c =
     let ran = c .before .before .before .before in
     let at = ran .before .before .before .before .before .before .before .before in
-    let s = at .before .before .args in (
+    let s = at .before .before .args in
+    let number = numbered-at 31 (s .moves .now) (at .loop .i) (at .before .before .pre) (omega arith) in (
       search needs,
-      leads-go (s .set) (s .moves .now) (at .loop .i) (at .loop .entries) (s .t4) _ (at .loop .inv .1) _ (ran .before .before .before .before .before .rule-at .ensures) (omega arith)
+      leads-go (s .set) (s .moves .now) (at .loop .i) (at .loop .entries) (s .t4) _ (at .loop .inv .1) _
+          (ran .before .before .before .before .before .rule-at .ensures ∙ rule-among (s .set) _ (number .1)) (omega arith)
           (passed (ran .runs .ensures) (c .before .before .before .if1 .left)) _ (c .after .ensures),
     )
 

@@ -1,4 +1,4 @@
--- `macros::redundancy::is_redundant` meets its contract: by what was found of the witness and of the sequence at each way out.
+-- `redundancy::is_redundant` meets its contract: by what was found of the witness and of the sequence at each way out.
 -- Assumes nothing.
 use mathlib.Core.Path.{_≡_, sym, subst, _∙_}
 use mathlib.Core.Bool.{Bool, true, false, not}
@@ -17,8 +17,8 @@ use Rattle.macros_spec.specs.declared.Vectors.{Vectors}
 use Rattle.macros_spec.specs.Redundancy.{endsIn, covers, lastNumber, redundantByLines, TellsRedundancy}
 use Rattle.macros_spec.proofs.CoverLaws.{test-tells}
 use Rattle.macros_spec.proofs.MoveLaws.{no-unknown-iff, numbered-test, numbered-wider}
-use Rattle.macros.proofs.redundancy.is_redundant.Statement.{statement}
-use Rattle.macros.proofs.redundancy.is_redundant.Tie as tie
+use Rattle.redundancy.proofs.is_redundant.Statement.{statement}
+use Rattle.redundancy.proofs.is_redundant.Tie as tie
 
 -- ── Each way out: what was found of the witness and of the sequence tells the answer ─────────────
 
@@ -62,8 +62,8 @@ module _ (set : RuleSet) (sequence : Vectors) (cost : ℕ) (witness : Sequence) 
 
 -- ── The proof ────────────────────────────────────────────────────────────────────────────────────
 
-smaller-requires : tie.Need-smaller-requires
-smaller-requires c κs = search needs
+last-number-requires : tie.Need-last-number-requires
+last-number-requires c κs = search needs
 
 has-unknown-move-requires : tie.Need-has-unknown-move-requires
 has-unknown-move-requires c κs = search needs
@@ -71,18 +71,16 @@ has-unknown-move-requires c κs = search needs
 returns : tie.Need-returns
 returns c =
     let s = c .before .before .before .before .args in
-    unnumbered (s .set) (s .sequence) (s .cost) (s .witness .now) _ (c .before .before .smaller .ensures) (sym (c .before .has-unknown-move .ensures) ∙ c .if1 .taken)
+    unnumbered (s .set) (s .sequence) (s .cost) (s .witness .now) _ (c .before .before .last-number .ensures) (sym (c .before .has-unknown-move .ensures) ∙ c .if1 .taken)
 
 costs-at-most-requires : tie.Need-costs-at-most-requires
-costs-at-most-requires c κs =
-    let s = c .before .before .before .before .args in
-    each-number (s .set) (s .sequence) (s .cost) (s .witness .now) _ (c .before .before .smaller .ensures) (sym (c .before .has-unknown-move .ensures) ∙ c .if1 .left)
+costs-at-most-requires c κs = search needs
 
 returns-2 : tie.Need-returns-2
 returns-2 c =
     let other = c .before .before in
     let s = other .before .before .before .before .args in
-    dearer (s .set) (s .sequence) (s .cost) (s .witness .now) _ (other .before .before .smaller .ensures) (sym (other .before .has-unknown-move .ensures) ∙ other .if1 .left)
+    dearer (s .set) (s .sequence) (s .cost) (s .witness .now) _ (other .before .before .last-number .ensures) (sym (other .before .has-unknown-move .ensures) ∙ other .if1 .left)
     (failed (c .before .costs-at-most .ensures) (c .if2 .taken))
 
 returns-3 : tie.Need-returns-3
@@ -90,14 +88,14 @@ returns-3 c =
     let cost = c .before .before in
     let other = cost .before .before in
     let s = other .before .before .before .before .args in
-    never-run (s .set) (s .sequence) (s .cost) (s .witness .now) _ (other .before .before .smaller .ensures) (sym (other .before .has-unknown-move .ensures) ∙ other .if1 .left)
+    never-run (s .set) (s .sequence) (s .cost) (s .witness .now) _ (other .before .before .last-number .ensures) (sym (other .before .has-unknown-move .ensures) ∙ other .if1 .left)
     (passed (cost .before .costs-at-most .ensures) (cost .if2 .left)) (not-true _ (c .if3 .taken))
 
 leads-requires : tie.Need-leads-requires
 leads-requires c κs =
     let other = c .before .before .before .before .before .before in
     let s = other .before .before .before .before .args in
-    each-number (s .set) (s .sequence) (s .cost) (s .witness .now) _ (other .before .before .smaller .ensures) (sym (other .before .has-unknown-move .ensures) ∙ other .if1 .left)
+    each-number (s .set) (s .sequence) (s .cost) (s .witness .now) _ (other .before .before .last-number .ensures) (sym (other .before .has-unknown-move .ensures) ∙ other .if1 .left)
 
 returns-4 : tie.Need-returns-4
 returns-4 c =
@@ -105,14 +103,14 @@ returns-4 c =
     let cost = admitted .before .before in
     let other = cost .before .before in
     let s = other .before .before .before .before .args in
-    compared (s .set) (s .sequence) (s .cost) (s .witness .now) _ (other .before .before .smaller .ensures) (sym (other .before .has-unknown-move .ensures) ∙ other .if1 .left)
+    compared (s .set) (s .sequence) (s .cost) (s .witness .now) _ (other .before .before .last-number .ensures) (sym (other .before .has-unknown-move .ensures) ∙ other .if1 .left)
     (passed (cost .before .costs-at-most .ensures) (cost .if2 .left)) (not-false _ (admitted .if3 .left)) _ (c .leads .ensures)
 
 pub is-redundant-spec : {M : Type 1} → statement M
 is-redundant-spec =
     tie.close
     (tie.spec
-    smaller-requires
+    last-number-requires
     has-unknown-move-requires
     returns
     costs-at-most-requires
