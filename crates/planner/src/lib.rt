@@ -1,6 +1,96 @@
-// The entries that C programs call.
-pub mod file_entries;
-pub mod macro_entry;
-mod packing;
-pub mod search_entry;
-pub mod table_entries;
+// The entries that C programs call. All take a rule text; 1 to 4 of the text come before all else.
+use packing::pack;
+use packing::pack_length;
+use text_search::search_text;
+ghost use mathlib.Core.Path.{_≡_};
+ghost use Prim.Native.Nat.{_/_, _%_};
+ghost use lib.ListN.{length};
+ghost use Rattle.files_spec.specs.Reading.{reading};
+ghost use Rattle.files_spec.specs.Meaning.{JudgeMeaning};
+ghost use Rattle.search_spec.specs.Query.{asked};
+ghost use Rattle.search_spec.specs.Searched.{Searched};
+ghost use Rattle.planner_spec.specs.Packed.{unpacked, searchedText, packedSearch};
+ghost use Rattle.planner_spec.specs.Rewriting.{rewrittenBuffer, packedRewritten, RewriteMeaning};
+ghost use Rattle.planner_spec.specs.TextTables.{packedTableSize, textBuildOutcome, textBuiltBuffer, textCheckOutcome, TextSizeMeaning, TextBuildMeaning, TextCheckMeaning};
+ghost use Rattle.planner_spec.specs.TextMacro.{macroBuffer, textMacro, TextMacroMeaning};
+ghost use Rattle.planner_spec.specs.TextSearch.{TextSearchMeaning};
+
+// Judges a rule file for C: 1 to 4, or 0.
+#[no_mangle]
+pub extern "C" fn planner_read(text: &[u8]) -> u8
+    ensures { λ r. ⌜ (r ≡ reading (now (text .entry)) .outcome) × JudgeMeaning (now (text .entry)) r ⌝ }
+{
+    let judged = reader::read(text);
+    judged.outcome
+}
+
+// Reads a rule file and writes it again, or zeroes the buffer: the outcome in the low byte, the length above it.
+#[no_mangle]
+pub extern "C" fn planner_rewrite(text: &[u8], out: &mut [u8]) -> u64
+    ensures { λ r. ⌜ (r ≡ packedRewritten (now (text .entry)) (length (now (out .entry)))) × (now (out .exit) ≡ rewrittenBuffer (now (text .entry)) (length (now (out .entry)))) × RewriteMeaning (now (text .entry)) (length (now (out .entry))) (record { outcome = r % 256; length = r / 256 }) (now (out .exit)) ⌝ }
+{
+    let answer = text_files::rewrite(text, out);
+    pack_length(answer.outcome, answer.length)
+}
+
+// How long a table is: the outcome in the low byte, the length in bytes above it.
+#[no_mangle]
+pub extern "C" fn planner_table_size(rules: &[u8], reach: usize) -> u64
+    ensures { λ r. ⌜ (r ≡ packedTableSize (now (rules .entry)) reach) × TextSizeMeaning (now (rules .entry)) reach (record { outcome = r % 256; length = r / 256 }) ⌝ }
+{
+    let size = text_tables::table_size(rules, reach);
+    pack_length(size.outcome, size.length)
+}
+
+// Builds the table, or zeroes it.
+#[no_mangle]
+pub extern "C" fn planner_build_table(rules: &[u8], table: &mut [u8], reach: usize) -> u8
+    ensures { λ r. ⌜ (r ≡ textBuildOutcome (now (rules .entry)) reach (length (now (table .entry)))) × (now (table .exit) ≡ textBuiltBuffer (now (rules .entry)) reach (length (now (table .entry)))) × TextBuildMeaning (now (rules .entry)) reach (length (now (table .entry))) r (now (table .exit)) ⌝ }
+{
+    text_tables::build_table(rules, reach, table)
+}
+
+// Checks a table, whoever made it.
+#[no_mangle]
+pub extern "C" fn planner_check_table(rules: &[u8], table: &[u8], reach: usize) -> u8
+    ensures { λ r. ⌜ (r ≡ textCheckOutcome (now (rules .entry)) reach (now (table .entry))) × TextCheckMeaning (now (rules .entry)) reach (now (table .entry)) r ⌝ }
+{
+    text_tables::check_table(rules, reach, table)
+}
+
+// The macro of a sequence of rule numbers, as bytes; zeros when refused.
+#[no_mangle]
+pub extern "C" fn planner_macro(rules: &[u8], moves: &[u8], out: &mut [u8]) -> u8
+    ensures { λ r. ⌜ (r ≡ textMacro (now (rules .entry)) (now (moves .entry)) .outcome) × (now (out .exit) ≡ macroBuffer (length (now (out .entry))) (textMacro (now (rules .entry)) (now (moves .entry)) .result)) × TextMacroMeaning (now (rules .entry)) (now (moves .entry)) (length (now (out .entry))) r (now (out .exit)) ⌝ }
+{
+    text_macro::macro_of(rules, moves, out)
+}
+
+// Searches for the cheapest plan of a query; the answer is packed.
+#[no_mangle]
+pub extern "C" fn planner_search(
+    rules: &[u8],
+    table: &[u8],
+    start: &[u8],
+    goal: &[u8],
+    plan: &mut [u8],
+    reach: usize,
+    max_moves: usize,
+    max_cost: u16,
+    step_limit: u32,
+) -> u64
+    ensures { λ r. ⌜ (let query = asked reach (now (table .entry)) (now (start .entry)) (now (goal .entry)) «max_moves» «max_cost» «step_limit» (length (now (plan .entry))) in let found : Searched = record { answer = unpacked r; plan = now (plan .exit) } in (r ≡ packedSearch (now (rules .entry)) query) × (now (plan .exit) ≡ searchedText (now (rules .entry)) query .plan) × TextSearchMeaning (now (rules .entry)) query found) ⌝ }
+{
+    let answer = search_text(
+        rules,
+        reach,
+        table,
+        start,
+        goal,
+        max_moves,
+        max_cost,
+        step_limit,
+        plan,
+    );
+    pack(answer)
+}

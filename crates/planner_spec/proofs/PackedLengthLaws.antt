@@ -1,9 +1,9 @@
 -- A packed length can be taken apart, and fits 64 bits where the length is below 2 to the power 56.
 -- Assumes nothing.
-use mathlib.Core.Path.{_≡_}
+use mathlib.Core.Path.{_≡_, ap, _∙_}
 use Prim.Native.Nat.{ℕ, _/_, _%_, _<_}
 use native.Mathlib.Omega.{arith}
-use Rattle.planner_spec.specs.PackedLength.{packedLength}
+use Rattle.planner_spec.specs.PackedLength.{packedLength, lengthLimit}
 
 module _ (outcome length : ℕ) (byte : outcome < 256) where
   pub packed-low : packedLength outcome length % 256 ≡ outcome
@@ -14,6 +14,19 @@ module _ (outcome length : ℕ) (byte : outcome < 256) where
   unfolding packedLength
   packed-rest = omega arith
 
-  pub packed-64 : length < 72057594037927936 → packedLength outcome length < 18446744073709551616
+  pub packed-64 : length < lengthLimit → packedLength outcome length < 18446744073709551616
   unfolding packedLength
   packed-64 h = omega arith
+
+-- what the code packs of a length within the limit is the length packed, and can be taken apart
+module _ (outcome length r : ℕ) (byte : outcome < 256) (short : length < lengthLimit)
+    (e : r ≡ packedLength outcome (length % lengthLimit)) where
+  pub packs : r ≡ packedLength outcome length
+  unfolding packedLength
+  packs = omega (arith, e)
+
+  pub packs-outcome : r % 256 ≡ outcome
+  packs-outcome = ap (λ n. n % 256) packs ∙ packed-low outcome length byte
+
+  pub packs-length : r / 256 ≡ length
+  packs-length = ap (λ n. n / 256) packs ∙ packed-rest outcome length byte

@@ -3,7 +3,7 @@
 use mathlib.Core.Path.{_≡_, refl, sym, ap, subst, _∙_}
 use mathlib.Core.Logic.{_≢_, ⊎-elim}
 use mathlib.Core.List.{List}
-use Prim.Native.Nat.{ℕ, _≤_, _<_}
+use Prim.Native.Nat.{ℕ, _/_, _%_, _≤_, _<_}
 use native.Mathlib.Omega.{arith}
 use lib.ListN.{length, replicate}
 use Rattle.theory_spec.proofs.TestLaws.{below?, equal?}
@@ -19,8 +19,10 @@ use Rattle.files_spec.proofs.AgainLaws.{file-again}
 use Rattle.files_spec.proofs.RefusedLaws.{reading-other, reading-bound, written-refused}
 use Rattle.files_spec.proofs.LengthLaws.{render-bound}
 use Rattle.files_spec.proofs.ReadTextLaws.{read-as}
-use Rattle.planner_spec.specs.Rewriting.{rewritten, rewrittenBuffer, RewriteMeaning}
+use Rattle.planner_spec.specs.PackedLength.{packedLength, lengthLimit}
+use Rattle.planner_spec.specs.Rewriting.{rewritten, rewrittenBuffer, packedRewritten, RewriteMeaning}
 use Rattle.planner_spec.proofs.OfTextLaws.{of-read, of-refused}
+use Rattle.planner_spec.proofs.PackedLengthLaws.{packs, packs-outcome, packs-length}
 
 module _ (text : List ℕ) (room : ℕ) where
   -- ── The two ways ───────────────────────────────────────────────────────────────────────────────
@@ -115,3 +117,17 @@ module _ (text : List ℕ) (room : ℕ) where
         omega (arith, means .sameText e .0, ap length (f .2), render-bound (f .0) (valid-iff (f .0) .1 (f .1))))
         (λ n. omega (arith, means .noText n .0))
         (equal? (answer .outcome) 0)
+
+  -- packed, the answer can be taken apart
+  pub rewrite-packed : (answer : Written) (buffer : List ℕ) → answer ≡ rewritten text room → RewriteMeaning text room answer buffer → (r : ℕ)
+      → r ≡ packedLength (answer .outcome) (answer .length % lengthLimit)
+      → (r ≡ packedRewritten text room) × RewriteMeaning text room (record { outcome = r % 256; length = r / 256 }) buffer
+  unfolding packedRewritten
+  rewrite-packed answer buffer e means r p =
+      let byte : answer .outcome < 256 = omega (arith, rewrite-outcome means) in
+      let short : answer .length < lengthLimit = omega (arith, rewrite-length means) in
+      let low = packs-outcome (answer .outcome) (answer .length) r byte short p in
+      let rest = packs-length (answer .outcome) (answer .length) r byte short p in (
+        packs (answer .outcome) (answer .length) r byte short p ∙ ap (λ (x : Written). packedLength (x .outcome) (x .length)) e,
+        subst (λ x. RewriteMeaning text room x buffer) (λ i. record { outcome = sym low i; length = sym rest i }) means,
+      )

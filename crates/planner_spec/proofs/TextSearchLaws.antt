@@ -14,10 +14,10 @@ use Rattle.search_spec.specs.Query.{Query}
 use Rattle.search_spec.specs.Searched.{Searched, searched, noMove, SearchMeaning}
 use Rattle.search_spec.proofs.AnswerLaws.{outcome-bound, cost-bound, length-bound, steps-bound, searched-blank}
 use Rattle.search_spec.proofs.MeaningLaws.{search-meaning}
-use Rattle.planner_spec.specs.Packed.{textRefused, searchedText}
+use Rattle.planner_spec.specs.Packed.{packed, unpacked, textRefused, searchedText, packedSearch}
 use Rattle.planner_spec.specs.TextSearch.{TextSearchMeaning}
 use Rattle.planner_spec.proofs.OfTextLaws.{of-read, of-refused}
-use Rattle.planner_spec.proofs.PackedLaws.{Fits}
+use Rattle.planner_spec.proofs.PackedLaws.{Fits, unpacked-packed}
 
 module _ (text : List ℕ) (query : Query) where
   pub refused-text : reading text .outcome ≢ 0 → searchedText text query ≡ textRefused (reading text .outcome) (query .planSize)
@@ -78,3 +78,15 @@ module _ (text : List ℕ) (query : Query) where
   -- the same of what is equal
   pub text-found : (found : Searched) → searchedText text query ≡ found → (searchedText text query ≡ found) × TextSearchMeaning text query found
   text-found found e = (e, subst (TextSearchMeaning text query) e text-search-meaning)
+
+  -- packed, the answer can be taken apart
+  pub search-packed : query .stepLimit < 4294967296 → (found : Searched) → searchedText text query ≡ found → (r : ℕ) → r ≡ packed (found .answer)
+      → (r ≡ packedSearch text query)
+      × (found .plan ≡ searchedText text query .plan)
+      × TextSearchMeaning text query (record { answer = unpacked r; plan = found .plan })
+  unfolding packedSearch
+  search-packed fits found f r e =
+      let same = e ∙ ap (λ (x : Searched). packed (x .answer)) (sym f) in
+      let plan = ap (λ (x : Searched). x .plan) (sym f) in
+      let answer = ap unpacked same ∙ unpacked-packed (searchedText text query .answer) (entry-fits fits) in
+      (same, plan, subst (TextSearchMeaning text query) (λ i. record { answer = sym answer i; plan = sym plan i }) text-search-meaning)

@@ -1,9 +1,9 @@
 -- What the entries on tables give of a text that is read and of one that is refused, and what it means; and that the length that is told can be built, and what is built passes the check.
 -- Assumes nothing.
-use mathlib.Core.Path.{_≡_, refl, sym, ap, _∙_}
+use mathlib.Core.Path.{_≡_, refl, sym, ap, subst, _∙_}
 use mathlib.Core.Logic.{_≢_, ⊎-elim}
 use mathlib.Core.List.{List}
-use Prim.Native.Nat.{ℕ, _≤_, _<_}
+use Prim.Native.Nat.{ℕ, _/_, _%_, _≤_, _<_}
 use native.Mathlib.Omega.{arith}
 use lib.ListN.{length, replicate}
 use Rattle.theory_spec.proofs.TestLaws.{equal?}
@@ -17,8 +17,10 @@ use Rattle.tables_spec.specs.declared.TableSize.{TableSize}
 use Rattle.tables_spec.specs.Answers.{sizeCauses, tableSize, buildOutcome, builtBuffer, checkOutcome}
 use Rattle.tables_spec.proofs.AnswerLaws.{built-whole, built-checks, build-meaning, check-meaning}
 use Rattle.tables_spec.proofs.SizeLaws.{size-meaning, size-builds-iff}
-use Rattle.planner_spec.specs.TextTables.{textTableSize, textBuildOutcome, textBuiltBuffer, textCheckOutcome, TextSizeMeaning, TextBuildMeaning, TextCheckMeaning}
+use Rattle.planner_spec.specs.PackedLength.{packedLength, lengthLimit}
+use Rattle.planner_spec.specs.TextTables.{textTableSize, packedTableSize, textBuildOutcome, textBuiltBuffer, textCheckOutcome, TextSizeMeaning, TextBuildMeaning, TextCheckMeaning}
 use Rattle.planner_spec.proofs.OfTextLaws.{of-read, of-refused}
+use Rattle.planner_spec.proofs.PackedLengthLaws.{packs, packs-outcome, packs-length}
 
 -- an outcome is not 7 where it is the reading's for a refused text, and says that the set is not valid for any other
 pub not-7 : (text : List ℕ) (outcome : ℕ) → (reading text .outcome ≢ 0 → outcome ≡ reading text .outcome)
@@ -52,6 +54,26 @@ module _ (text : List ℕ) (reach : ℕ) where
     never7 = not-7 text (textTableSize text reach .outcome) (λ h. ap (λ (a : TableSize). a .outcome) (size-refused h))
         (λ e z. size-meaning (reading text .set) reach .notValid .0 (sym (ap (λ (a : TableSize). a .outcome) (size-read e)) ∙ z));
   }
+
+  -- no table is longer than 61,568 bytes
+  size-short : textTableSize text reach .length < lengthLimit
+  size-short =
+      ⊎-elim (λ e. omega (arith, text-size-meaning .readText e .bounded))
+      (λ h. omega (arith, text-size-meaning .refusedText h .1)) (equal? (reading text .outcome) 0)
+
+  -- packed, the answer can be taken apart
+  pub size-packed : (answer : TableSize) → answer ≡ textTableSize text reach → (r : ℕ)
+      → r ≡ packedLength (answer .outcome) (answer .length % lengthLimit)
+      → (r ≡ packedTableSize text reach) × TextSizeMeaning text reach (record { outcome = r % 256; length = r / 256 })
+  unfolding packedTableSize
+  size-packed answer e r p =
+      let t = textTableSize text reach in
+      let same = p ∙ ap (λ (x : TableSize). packedLength (x .outcome) (x .length % lengthLimit)) e in
+      let low = packs-outcome (t .outcome) (t .length) r size-byte size-short same in
+      let rest = packs-length (t .outcome) (t .length) r size-byte size-short same in (
+        packs (t .outcome) (t .length) r size-byte size-short same,
+        subst (TextSizeMeaning text reach) (λ i. record { outcome = sym low i; length = sym rest i }) text-size-meaning,
+      )
 
 module _ (text : List ℕ) (reach size : ℕ) where
   pub build-read : reading text .outcome ≡ 0

@@ -1,0 +1,26 @@
+// Answers of several parts as one number, for the C entries.
+use search_spec::Answer;
+ghost use mathlib.Core.Path.{_≡_};
+ghost use Prim.Native.Nat.{_%_};
+ghost use Rattle.planner_spec.specs.PackedLength.{packedLength, lengthLimit};
+ghost use Rattle.planner_spec.specs.Packed.{packed};
+
+// One more than the longest length that has room above the low byte.
+const LENGTH_LIMIT: u64 = 72057594037927936;
+
+// The outcome in the low byte, the length above it: of a longer one its low 56 bits.
+pub fn pack_length(outcome: u8, length: usize) -> u64
+    ensures { λ r. ⌜ r ≡ packedLength outcome (length % lengthLimit) ⌝ }
+{
+    (outcome as u64) + 256 * ((length as u64) % LENGTH_LIMIT)
+}
+
+// An answer as one number.
+pub fn pack(answer: Answer) -> u64
+    ensures { λ r. ⌜ r ≡ packed answer ⌝ }
+{
+    (answer.outcome as u64)
+        + 256 * (answer.length as u64)
+        + 65536 * (answer.cost as u64)
+        + 4294967296 * (answer.steps as u64)
+}

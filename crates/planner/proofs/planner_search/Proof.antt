@@ -1,0 +1,31 @@
+-- `planner::planner_search` meets its contract: the answer is packed, and can be taken apart.
+-- Assumes nothing.
+use lib.ListN.{length}
+use borrow.Author.Needs.{needs}
+use Rattle.search_spec.specs.Query.{Query, asked}
+use Rattle.planner_spec.proofs.TextSearchLaws.{search-packed}
+use Rattle.planner.proofs.planner_search.Statement.{statement}
+use Rattle.planner.proofs.planner_search.Tie as tie
+
+-- the query that is asked
+abbrev queryOf : tie.Start → Query
+queryOf s =
+    let a = s .args in
+    asked (a .reach) (a .table .now) (a .start .now) (a .goal .now) (a .max-moves) (a .max-cost) (a .step-limit) (length (a .plan .now))
+
+search-text-requires : tie.Need-search-text-requires
+search-text-requires c κs = search needs
+
+pack-requires : tie.Need-pack-requires
+pack-requires c κs = search needs
+
+same-length : tie.Need-same-length
+same-length c = search needs
+
+returns : tie.Need-returns
+returns c =
+    let s = c .before .before .before .before .before .before .before .before .before .before in
+    search-packed (s .args .rules .now) (queryOf s) (search needs) _ (c .before .before .before .search-text .ensures .0) _ (c .pack .ensures)
+
+pub planner-search-spec : {M : Type 1} → statement M
+planner-search-spec = tie.close (tie.spec search-text-requires pack-requires same-length returns)

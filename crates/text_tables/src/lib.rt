@@ -1,0 +1,52 @@
+// Pruning tables of a rule text's set. 1 to 4 of the text come before all else.
+use buffers::fill_from;
+use reader::read;
+use tables_spec::TableSize;
+ghost use mathlib.Core.Path.{_≡_};
+ghost use lib.ListN.{length};
+ghost use Rattle.planner_spec.specs.TextTables.{textTableSize, textBuildOutcome, textBuiltBuffer, textCheckOutcome, TextSizeMeaning, TextBuildMeaning, TextCheckMeaning};
+
+// How long a table is; a refused text has no length.
+pub fn table_size(text: &[u8], reach: usize) -> TableSize
+    ensures { λ r. ⌜
+        (r ≡ textTableSize (now (text .entry)) reach)
+        × TextSizeMeaning (now (text .entry)) reach r ⌝ }
+{
+    let file = read(text);
+    if file.outcome != 0 {
+        return TableSize {
+            outcome: file.outcome,
+            length: 0,
+        };
+    }
+    pruning::table_size(file.set, reach)
+}
+
+// Builds the table, or zeroes it.
+pub fn build_table(text: &[u8], reach: usize, table: &mut [u8]) -> u8
+    ensures { λ r. ⌜
+        (r ≡ textBuildOutcome (now (text .entry)) reach (length (now (table .entry))))
+        × (now (table .exit) ≡ textBuiltBuffer (now (text .entry)) reach (length (now (table .entry))))
+        × TextBuildMeaning (now (text .entry)) reach (length (now (table .entry))) r (now (table .exit)) ⌝ }
+{
+    let file = read(text);
+    if file.outcome != 0 {
+        fill_from(table, 0, 0);
+        return file.outcome;
+    }
+    pruning::build_table(file.set, reach, table)
+}
+
+// Checks a table, whoever made it.
+pub fn check_table(text: &[u8], reach: usize, table: &[u8]) -> u8
+    ensures { λ r. ⌜
+        (r ≡ textCheckOutcome (now (text .entry)) reach (now (table .entry)))
+        × TextCheckMeaning (now (text .entry)) reach (now (table .entry)) r ⌝ }
+{
+    let file = read(text);
+    let refusal = file.outcome;
+    if refusal != 0 {
+        return refusal;
+    }
+    pruning::check_table(file.set, reach, table)
+}
