@@ -42,6 +42,14 @@ count-bound m (suc (suc zero)) h k = omega (arith, pow-le-pow-left h 1, pow-le-p
 count-bound m (suc (suc (suc zero))) h k = omega (arith, pow-le-pow-left h 1, pow-le-pow-left h 2, pow-le-pow-left h 3)
 count-bound m (suc (suc (suc (suc reach)))) h k = absurd (omega arith)
 
+-- with any byte for the number of rules
+pub count-byte : (m reach : ℕ) → m ≤ 255 → reach ≤ 3 → sequenceCount m reach ≤ 16646656
+count-byte m zero h k = omega arith
+count-byte m (suc zero) h k = omega (arith, pow-le-pow-left h 1)
+count-byte m (suc (suc zero)) h k = omega (arith, pow-le-pow-left h 1, pow-le-pow-left h 2)
+count-byte m (suc (suc (suc zero))) h k = omega (arith, pow-le-pow-left h 1, pow-le-pow-left h 2, pow-le-pow-left h 3)
+count-byte m (suc (suc (suc (suc reach)))) h k = absurd (omega arith)
+
 -- at most 993 sequences have room for one more rule
 pub count-prefix : (m n : ℕ) → m ≤ 31 → n ≤ 2 → sequenceCount m n ≤ 993
 count-prefix m zero h k = omega arith
