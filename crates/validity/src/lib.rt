@@ -1,14 +1,13 @@
 // Whether a rule set is valid.
+use duplicates::has_duplicates;
 use model_spec::Rule;
 use model_spec::RuleSet;
-use placement::condition_placed;
-use placement::effect_placed;
-use placement::entry_limited;
+use rule_validity::rule_valid;
 use states::same_entries;
 ghost use mathlib.Core.Path.{_≡_};
-ghost use Prim.Native.Nat.{_<_, _≤_};
+ghost use Prim.Native.Nat.{_<_};
 ghost use Rattle.theory_spec.specs.Lists.{within};
-ghost use Rattle.model_spec.specs.Validity.{conditionValid, effectValid, sizeValid, sizesValid, ruleValid, ruleBlank, ruleValidAt, rulesValid, duplicate, repeated, hasDuplicates, wellFormed, valid};
+ghost use Rattle.model_spec.specs.Validity.{sizeValid, sizesValid, ruleBlank, ruleValidAt, rulesValid, wellFormed, valid};
 
 // Whether `number` is one from `least` to `most`.
 fn in_range(least: u8, most: u8, number: u8) -> bool
@@ -18,44 +17,6 @@ fn in_range(least: u8, most: u8, number: u8) -> bool
         return false;
     }
     number <= most
-}
-
-// Whether every entry of a condition is valid.
-fn condition_valid(positions: u8, sizes: &[u8; 16], condition: &[u8; 16]) -> bool
-    ensures { λ r. ⌜ r ≡ conditionValid positions (now (sizes .entry)) (now (condition .entry)) ⌝ }
-{
-    let entries: &[u8] = condition;
-    let mut i: usize = 0;
-    while i < 16 {
-        let entry = entries[i];
-        if !entry_limited(positions, sizes, i, entry) {
-            return false;
-        }
-        if !condition_placed(positions, sizes, condition, i, entry) {
-            return false;
-        }
-        i += 1;
-    }
-    true
-}
-
-// Whether every entry of an effect is valid, after this condition.
-fn effect_valid(positions: u8, sizes: &[u8; 16], condition: &[u8; 16], effect: &[u8; 16]) -> bool
-    ensures { λ r. ⌜ r ≡ effectValid positions (now (sizes .entry)) (now (condition .entry)) (now (effect .entry)) ⌝ }
-{
-    let entries: &[u8] = effect;
-    let mut i: usize = 0;
-    while i < 16 {
-        let entry = entries[i];
-        if !entry_limited(positions, sizes, i, entry) {
-            return false;
-        }
-        if !effect_placed(positions, sizes, condition, i, entry) {
-            return false;
-        }
-        i += 1;
-    }
-    true
 }
 
 // Whether the size at place i is 2 to 16 for a position, and 0 beyond.
@@ -83,18 +44,6 @@ fn sizes_valid(positions: u8, sizes: &[u8; 16]) -> bool
         i += 1;
     }
     true
-}
-
-// Whether both lines of a rule are valid. Every cost is: a byte is at most 255.
-fn rule_valid(positions: u8, sizes: &[u8; 16], rule: Rule) -> bool
-    ensures { λ r. ⌜ r ≡ ruleValid positions (now (sizes .entry)) rule ⌝ }
-{
-    let condition = rule.condition;
-    let effect = rule.effect;
-    if !condition_valid(positions, sizes, &condition) {
-        return false;
-    }
-    effect_valid(positions, sizes, &condition, &effect)
 }
 
 // Whether a rule is zero throughout, as an unused one has to be.
@@ -138,53 +87,6 @@ fn rules_valid(set: RuleSet) -> bool
         k += 1;
     }
     true
-}
-
-// Whether two rules are duplicates: equal conditions and equal effects.
-fn duplicate(a: Rule, b: Rule) -> bool
-    ensures { λ r. ⌜ r ≡ duplicate a b ⌝ }
-{
-    let first = a.condition;
-    let second = b.condition;
-    if !same_entries(&first, &second) {
-        return false;
-    }
-    let third = a.effect;
-    let fourth = b.effect;
-    same_entries(&third, &fourth)
-}
-
-// Whether the rule at place k is a duplicate of an earlier one.
-fn repeated(set: RuleSet, k: usize) -> bool
-    requires { ⌜ k < 31 ⌝ }
-    ensures { λ r. ⌜ r ≡ repeated (set .rules) k ⌝ }
-{
-    let rule = set.rules[k];
-    let mut j: usize = 0;
-    while j < k {
-        let earlier = set.rules[j];
-        if duplicate(earlier, rule) {
-            return true;
-        }
-        j += 1;
-    }
-    false
-}
-
-// Whether some of the used rules are duplicates.
-fn has_duplicates(set: RuleSet) -> bool
-    requires { ⌜ set .count ≤ 31 ⌝ }
-    ensures { λ r. ⌜ r ≡ hasDuplicates (set .rules) (set .count) ⌝ }
-{
-    let count = set.count as usize;
-    let mut k: usize = 0;
-    while k < count {
-        if repeated(set, k) {
-            return true;
-        }
-        k += 1;
-    }
-    false
 }
 
 // Whether a set is valid but for duplicates.

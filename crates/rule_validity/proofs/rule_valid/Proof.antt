@@ -1,11 +1,11 @@
--- `validity::rule_valid` meets its contract. A cost is a byte, so it is at most 255.
+-- `rule_validity::rule_valid` meets its contract. A cost is a byte, so it is at most 255.
 -- Assumes nothing.
 use borrow.Author.Tests.{le-leb}
 use borrow.Author.Needs.{needs}
 use Rattle.model_spec.specs.Validity.{ruleValid}
 use Rattle.model_spec.proofs.LoopLaws.{failed, passed}
-use Rattle.validity.proofs.rule_valid.Statement.{statement}
-use Rattle.validity.proofs.rule_valid.Tie as tie
+use Rattle.rule_validity.proofs.rule_valid.Statement.{statement}
+use Rattle.rule_validity.proofs.rule_valid.Tie as tie
 
 condition-valid-requires : tie.Need-condition-valid-requires
 condition-valid-requires c κs = search needs

@@ -1,4 +1,4 @@
--- `validity::condition_valid` meets its contract. The invariant: the tests of the places from i on decide the whole.
+-- `rule_validity::condition_valid` meets its contract. The invariant: the tests of the places from i on decide the whole.
 -- Assumes nothing.
 use mathlib.Core.Path.{_≡_}
 use native.Mathlib.Omega.{arith}
@@ -11,8 +11,8 @@ use Rattle.theory_spec.specs.Lists.{every, numbersFrom}
 use Rattle.theory_spec.proofs.ListLaws.{and-join}
 use Rattle.model_spec.specs.Validity.{entryLimited, conditionPlaced, conditionValid}
 use Rattle.model_spec.proofs.LoopLaws.{failed, passed, every-go, every-stop, every-end, sized, first-fails, second-fails}
-use Rattle.validity.proofs.condition_valid.Statement.{statement}
-use Rattle.validity.proofs.condition_valid.Tie as tie
+use Rattle.rule_validity.proofs.condition_valid.Statement.{statement}
+use Rattle.rule_validity.proofs.condition_valid.Tie as tie
 
 -- the test of place i
 abbrev test : ℕ → List ℕ → List ℕ → ℕ → Bool

@@ -1,10 +1,10 @@
--- `validity::duplicate` meets its contract.
+-- `duplicates::duplicate` meets its contract.
 -- Assumes nothing.
 use borrow.Author.Needs.{needs}
 use Rattle.model_spec.specs.Validity.{duplicate}
 use Rattle.model_spec.proofs.LoopLaws.{failed, passed}
-use Rattle.validity.proofs.duplicate.Statement.{statement}
-use Rattle.validity.proofs.duplicate.Tie as tie
+use Rattle.duplicates.proofs.duplicate.Statement.{statement}
+use Rattle.duplicates.proofs.duplicate.Tie as tie
 
 same-entries-requires : tie.Need-same-entries-requires
 same-entries-requires c κs = search needs

@@ -1,4 +1,4 @@
--- `validity::repeated` meets its contract. The invariant: the tests of the rules from place j on decide the whole.
+-- `duplicates::repeated` meets its contract. The invariant: the tests of the rules from place j on decide the whole.
 -- Assumes nothing.
 use mathlib.Core.Path.{_≡_, sym, _∙_}
 use Prim.Native.Nat.{_≤_, _-_, ℕ}
@@ -11,8 +11,8 @@ use Rattle.model_spec.specs.Rules.{noRule}
 use Rattle.model_spec.specs.declared.RuleSet.{RuleSet}
 use Rattle.model_spec.specs.Validity.{duplicate, repeated}
 use Rattle.model_spec.proofs.LoopLaws.{any-start, any-go, any-stop, any-end}
-use Rattle.validity.proofs.repeated.Statement.{statement}
-use Rattle.validity.proofs.repeated.Tie as tie
+use Rattle.duplicates.proofs.repeated.Statement.{statement}
+use Rattle.duplicates.proofs.repeated.Tie as tie
 
 -- the test of the rule at place j
 abbrev test : RuleSet → ℕ → ℕ → Bool
