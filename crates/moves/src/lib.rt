@@ -1,4 +1,4 @@
-// A sequence given as moves, the numbers of rules: whether each is one, the rule of a number, and what the sequence costs.
+// A sequence given as moves, the numbers of rules: whether each is one, the rule of a number, and the sequence's cost.
 use model_spec::Rule;
 use model_spec::RuleSet;
 ghost use mathlib.Core.Path.{_≡_};

@@ -27,7 +27,8 @@ fn condition_valid(positions: u8, sizes: &[u8; 16], condition: &[u8; 16]) -> boo
 
 // Whether every entry of an effect is valid, after this condition.
 fn effect_valid(positions: u8, sizes: &[u8; 16], condition: &[u8; 16], effect: &[u8; 16]) -> bool
-    ensures { λ r. ⌜ r ≡ effectValid positions (now (sizes .entry)) (now (condition .entry)) (now (effect .entry)) ⌝ }
+    ensures { λ r. ⌜
+        r ≡ effectValid positions (now (sizes .entry)) (now (condition .entry)) (now (effect .entry)) ⌝ }
 {
     let entries: &[u8] = effect;
     let mut i: usize = 0;

@@ -23,7 +23,13 @@ pub fn search_with_tally(
     plan: &mut [u8],
     tally: &mut Tally,
 ) -> Answer
-    ensures { λ r. ⌜ (let query = asked reach (now (table .entry)) (now (start .entry)) (now (goal .entry)) «max_moves» «max_cost» «step_limit» (length (now (plan .entry))) in let found : Searched = record { answer = r; plan = now (plan .exit) } in (queried set query (now (tally .entry)) ≡ record { found = found; tally = now (tally .exit) }) × SearchMeaning set query found × TallyMeaning (r .outcome) (r .steps) (now (tally .entry)) (now (tally .exit))) ⌝ }
+    ensures { λ r. ⌜
+        (let query = asked reach (now (table .entry)) (now (start .entry)) (now (goal .entry))
+        «max_moves» «max_cost» «step_limit» (length (now (plan .entry))) in
+        let found : Searched = record { answer = r; plan = now (plan .exit) } in
+        (queried set query (now (tally .entry)) ≡ record { found = found; tally = now (tally .exit) })
+        × SearchMeaning set query found
+        × TallyMeaning (r .outcome) (r .steps) (now (tally .entry)) (now (tally .exit))) ⌝ }
 {
     let answer = search(
         set,

@@ -46,7 +46,9 @@ fn is_refusal(outcome: u8) -> bool
 
 // The tally after a query: 1 more in the count of its outcome, and its steps in their sum.
 pub fn tallied(tally: Tally, outcome: u8, steps: u32) -> Tally
-    ensures { λ r. ⌜ (r ≡ talliedOf tally outcome steps) × TallyMeaning outcome steps tally r ⌝ }
+    ensures { λ r. ⌜
+        (r ≡ talliedOf tally outcome steps)
+        × TallyMeaning outcome steps tally r ⌝ }
 {
     Tally {
         solved: raised_if(outcome == 0, tally.solved),
@@ -59,7 +61,9 @@ pub fn tallied(tally: Tally, outcome: u8, steps: u32) -> Tally
 
 // The same where the caller keeps the tally.
 pub fn update(tally: &mut Tally, outcome: u8, steps: u32)
-    ensures { λ _. ⌜ (now (tally .exit) ≡ talliedOf (now (tally .entry)) outcome steps) × TallyMeaning outcome steps (now (tally .entry)) (now (tally .exit)) ⌝ }
+    ensures { λ _. ⌜
+        (now (tally .exit) ≡ talliedOf (now (tally .entry)) outcome steps)
+        × TallyMeaning outcome steps (now (tally .entry)) (now (tally .exit)) ⌝ }
 {
     let old = *tally;
     *tally = tallied(old, outcome, steps);

@@ -7,7 +7,8 @@ use states::same_entries;
 ghost use mathlib.Core.Path.{_≡_};
 ghost use Prim.Native.Nat.{_<_};
 ghost use Rattle.theory_spec.specs.Lists.{within};
-ghost use Rattle.model_spec.specs.Validity.{sizeValid, sizesValid, ruleBlank, ruleValidAt, rulesValid, wellFormed, valid};
+ghost use Rattle.model_spec.specs.Validity.{sizeValid, sizesValid, ruleBlank, ruleValidAt, rulesValid};
+ghost use Rattle.model_spec.specs.Validity.{wellFormed, valid};
 
 // Whether `number` is one from `least` to `most`.
 fn in_range(least: u8, most: u8, number: u8) -> bool

@@ -1,4 +1,5 @@
--- `duplicates::has_duplicates` meets its contract. The invariant: the tests of the rules from place k on decide the whole.
+-- `duplicates::has_duplicates` meets its contract.
+-- The invariant: the tests of the rules from place k on decide the whole.
 -- Assumes nothing.
 use mathlib.Core.Path.{_≡_, sym, _∙_}
 use Prim.Native.Nat.{min, _≤_, _-_}
@@ -25,7 +26,8 @@ loop-holds : tie.Need-loop-holds Inv-loop μ-loop
 unfolding hasDuplicates
 loop-holds c =
     let s = c .before .args in
-    (search needs, omega (arith, c .rule-count .ensures), rw (c .rule-count .ensures) (any-start (repeated (s .set .rules)) (min (s .set .count) 31)))
+    let start = any-start (repeated (s .set .rules)) (min (s .set .count) 31) in
+    (search needs, omega (arith, c .rule-count .ensures), rw (c .rule-count .ensures) start)
 
 repeated-requires : tie.Need-repeated-requires Inv-loop μ-loop
 repeated-requires c κs = search needs
@@ -34,7 +36,8 @@ returns : tie.Need-returns Inv-loop μ-loop
 returns c =
     let at = c .before .before .before in
     let s = at .before .before .args in
-    any-stop (repeated (s .set .rules)) (at .loop .k) _ _ (at .loop .inv .2) (omega arith) (sym (c .before .repeated .ensures) ∙ c .if1 .taken)
+    any-stop (repeated (s .set .rules)) (at .loop .k) _ _ (at .loop .inv .2) (omega arith)
+    (sym (c .before .repeated .ensures) ∙ c .if1 .taken)
 
 add-k : tie.Need-add-k Inv-loop μ-loop
 add-k c = search needs
@@ -46,7 +49,8 @@ loop-again : tie.Need-loop-again Inv-loop μ-loop
 loop-again c =
     let at = c .before .before .before in
     let s = at .before .before .args in
-    (search needs, search needs, any-go (repeated (s .set .rules)) (at .loop .k) _ _ (at .loop .inv .2) (omega arith) (sym (c .before .repeated .ensures) ∙ c .if1 .left))
+    let passed = sym (c .before .repeated .ensures) ∙ c .if1 .left in
+    (search needs, search needs, any-go (repeated (s .set .rules)) (at .loop .k) _ _ (at .loop .inv .2) (omega arith) passed)
 
 returns-2 : tie.Need-returns-2 Inv-loop μ-loop
 returns-2 c =

@@ -32,8 +32,10 @@ module _ (set : RuleSet) (moves : Sequence) where
   numbered-31 formed numbered = numbered-wider (set .count) 31 moves (formed .countLimits .1) (no-unknown-iff (set .count) moves .0 numbered)
 
   -- and at most 32 of its rules cost at most 32 times 255
-  cost-small : WellFormed set → length moves ≤ 32 → any (λ r. not (within 1 (set .count) r)) moves ≡ false → sequenceCost set moves ≤ 8160
-  cost-small formed few numbered = omega (arith, valid-cost set formed moves (no-unknown-iff (set .count) moves .0 numbered))
+  cost-small : WellFormed set → length moves ≤ 32 → any (λ r. not (within 1 (set .count) r)) moves ≡ false
+      → sequenceCost set moves ≤ 8160
+  cost-small formed few numbered =
+      omega (arith, valid-cost set formed moves (no-unknown-iff (set .count) moves .0 numbered))
 
 -- ── The proof ────────────────────────────────────────────────────────────────────────────────────
 
@@ -86,7 +88,8 @@ cast-cost c =
     let numbered = admitted .before .before .before in
     let few = numbered .before .before in
     let start = few .before .before in
-    let bound = cost-small (start .args .set) (start .args .moves .now) (start .pre) (few .if1 .left) (sym (numbered .before .has-unknown-move .ensures) ∙ numbered .if2 .left) in
+    let known = sym (numbered .before .has-unknown-move .ensures) ∙ numbered .if2 .left in
+    let bound = cost-small (start .args .set) (start .args .moves .now) (start .pre) (few .if1 .left) known in
     search needs
 
 returns-4 : tie.Need-returns-4
@@ -97,10 +100,11 @@ returns-4 c =
     let few = numbered .before .before in
     let start = few .before .before in
     let s = start .args in
-    let bound = cost-small (s .set) (s .moves .now) (start .pre) (few .if1 .left) (sym (numbered .before .has-unknown-move .ensures) ∙ numbered .if2 .left) in
+    let known = sym (numbered .before .has-unknown-move .ensures) ∙ numbered .if2 .left in
+    let bound = cost-small (s .set) (s .moves .now) (start .pre) (few .if1 .left) known in
     let cost : c .cost-of .result ≡ sequenceCost (s .set) (s .moves .now) = omega (arith, c .cost-of .ensures) in
     sym (rw cost
-    (worked-given (s .set) (s .moves .now) (few .if1 .left) (start .pre) (sym (numbered .before .has-unknown-move .ensures) ∙ numbered .if2 .left) _
+    (worked-given (s .set) (s .moves .now) (few .if1 .left) (start .pre) known _
     (lines-admitted _ _ (made .composed .ensures) (not-false _ (admitted .if3 .left)))))
 
 pub macro-for-spec : {M : Type 1} → statement M

@@ -12,15 +12,16 @@ use Rattle.moves.proofs.cost_at.Tie as tie
 returns : tie.Need-returns
 returns c =
     let start = c .before in
-    sym (no-rule-cost (start .args .set) (start .args .number) (rules-31 (start .args .set) _ (start .good .0)) (c .if1 .taken))
+    let s = start .args in
+    sym (no-rule-cost (s .set) (s .number) (rules-31 (s .set) _ (start .good .0)) (c .if1 .taken))
 
 rule-at-requires : tie.Need-rule-at-requires
 rule-at-requires c κs = search needs
 
 returns-2 : tie.Need-returns-2
 returns-2 c =
-    let start = c .before .before in
-    ap (λ (r : Rule). r .cost) (c .rule-at .ensures ∙ rule-among (start .args .set) (start .args .number) (c .before .if1 .left))
+    let s = c .before .before .args in
+    ap (λ (r : Rule). r .cost) (c .rule-at .ensures ∙ rule-among (s .set) (s .number) (c .before .if1 .left))
 
 pub cost-at-spec : {M : Type 1} → statement M
 cost-at-spec = tie.close (tie.spec returns rule-at-requires returns-2)
