@@ -1,5 +1,6 @@
-// Composition: the vectors of a sequence, rule after rule. Document 01 asks for entry arrays of sixteen that go in and come back by value, without a lent buffer;
-// so `value_in` and `followed` do by value what `states`' `value` and `after` do on arrays that are lent.
+// Composition: the vectors of a sequence, rule after rule. Document 01 asks for entry arrays of sixteen that go in and
+// come back by value, without a lent buffer; so `value_in` and `followed` do by value what `states`' `value` and `after`
+// do on arrays that are lent.
 use macros_spec::Vectors;
 use model_spec::Rule;
 use model_spec::RuleSet;
@@ -11,12 +12,14 @@ ghost use lib.Dec.{ltb};
 ghost use Rattle.model_spec.specs.States.{valueOf, valuesOf};
 ghost use Rattle.macros_spec.specs.Composition.{ownVariables, emptyLines, replaced, unified, extended, asVectors, linesOf};
 
+// The larger of two entries.
 fn larger(x: u8, y: u8) -> u8
     ensures { λ r. ⌜ r ≡ max x y ⌝ }
 {
     if x < y { y } else { x }
 }
 
+// The smaller of two entries.
 fn smaller(x: u8, y: u8) -> u8
     ensures { λ r. ⌜ r ≡ min x y ⌝ }
 {
