@@ -1,38 +1,102 @@
-// The reader of rule files.
-mod items;
-mod lines;
-
+// The reader of rule files: the whole of a text, line by line and then to its end.
+use blanks::blank_rule;
+use blanks::empty_set;
 use files_spec::Reading;
-use model_spec::Rule;
+use lines::number_line;
+use lines::sizes_line;
 use model_spec::RuleSet;
+use reader_laws::FoundRules;
 use reader_laws::FoundSet;
+use rule_lines::rule_lines;
 ghost use mathlib.Core.Path.{_≡_};
-ghost use Rattle.model_spec.specs.Rules.{blankRule, emptySet};
-ghost use Rattle.files_spec.specs.Reading.{fileLines, reading};
+ghost use Prim.Native.Nat.{_≤_};
+ghost use lib.ListN.{drop};
+ghost use Rattle.files_spec.specs.Reading.{ruleList, fileLines, reading};
 ghost use Rattle.files_spec.specs.Meaning.{ReadMeaning};
 ghost use Rattle.reader_laws.specs.Found.{found};
 
-// An unused rule.
-fn blank_rule() -> Rule
-    ensures { λ r. ⌜ r ≡ blankRule ⌝ }
+// A refusal in the place of the file.
+fn no_set(outcome: u8) -> FoundSet
+    ensures { λ r. ⌜ r .outcome ≡ outcome ⌝ }
 {
-    Rule {
-        cost: 0,
-        condition: [0; 16],
-        effect: [0; 16],
+    FoundSet {
+        outcome,
+        set: empty_set(),
+        next: 0,
     }
 }
 
-// The set with 0 positions and 0 rules, zero throughout.
-fn empty_set() -> RuleSet
-    ensures { λ r. ⌜ r ≡ emptySet ⌝ }
+// The lines of so many rules.
+fn rule_list(text: &[u8], at: usize, positions: u8, sizes: &[u8; 16], count: u8) -> FoundRules
+    requires { ⌜ (positions ≤ 16) × (count ≤ 31) ⌝ }
+    ensures { λ r. ⌜
+        ruleList positions (now (sizes .entry)) count (drop at (now (text .entry)))
+        ≡ found (r .outcome) (r .rules) (r .next) (now (text .entry)) ⌝ }
 {
     let blank = blank_rule();
-    RuleSet {
-        positions: 0,
-        sizes: [0; 16],
-        count: 0,
-        rules: [blank; 31],
+    let mut rules = [blank; 31];
+    let mut next = at;
+    let mut k: usize = 0;
+    let total = count as usize;
+    while k < total {
+        let lines = rule_lines(text, next, positions, sizes);
+        let outcome = lines.outcome;
+        if outcome != 0 {
+            return FoundRules {
+                outcome,
+                rules,
+                next,
+            };
+        }
+        let rule = lines.rule;
+        rules[k] = rule;
+        next = lines.next;
+        k += 1;
+    }
+    FoundRules {
+        outcome: 0,
+        rules,
+        next,
+    }
+}
+
+// All lines of the file.
+fn file_lines(text: &[u8]) -> FoundSet
+    ensures { λ r. ⌜
+        fileLines (now (text .entry)) ≡ found (r .outcome) (r .set) (r .next) (now (text .entry)) ⌝ }
+{
+    let positions = number_line(text, 0, b"positions=", 1, 16);
+    let first = positions.outcome;
+    if first != 0 {
+        return no_set(first);
+    }
+    let line = sizes_line(text, positions.next, positions.value);
+    let second = line.outcome;
+    if second != 0 {
+        return no_set(second);
+    }
+    let count = number_line(text, line.next, b"rules=", 1, 31);
+    let third = count.outcome;
+    if third != 0 {
+        return no_set(third);
+    }
+    let sizes = line.entries;
+    let rules = rule_list(text, count.next, positions.value, &sizes, count.value);
+    let fourth = rules.outcome;
+    if fourth != 0 {
+        return no_set(fourth);
+    }
+    let all = rules.rules;
+    let set = RuleSet {
+        positions: positions.value,
+        sizes,
+        count: count.value,
+        rules: all,
+    };
+    FoundSet {
+        outcome: 0,
+        set,
+        next: rules.next,
     }
 }
 
@@ -62,7 +126,7 @@ fn outcome_of(text: &[u8], file: FoundSet) -> u8
 pub fn read(text: &[u8]) -> Reading
     ensures { λ r. ⌜ (r ≡ reading (now (text .entry))) × ReadMeaning (now (text .entry)) r ⌝ }
 {
-    let file = crate::lines::file_lines(text);
+    let file = file_lines(text);
     let set = file.set;
     let empty = empty_set();
     let outcome = outcome_of(text, file);

@@ -1,25 +1,25 @@
--- An entry of a line is read and then judged for its place: in an `if` line by the array with the entry stored in it, in a `then` line by the condition.
+-- An entry of a line is read, a constant as a number below its size, and then judged for its place: in an `if` line by the array with the entry stored in it, in a `then` line by the condition.
 -- Assumes nothing.
 use mathlib.Core.Path.{_≡_, refl, sym, ap, _∙_}
 use mathlib.Core.Logic.{_≢_}
 use mathlib.Core.Bool.{Bool, true, false, not, _&&_, _||_}
 use mathlib.Core.List.{List, [], _∷_, _++_}
-use Prim.Native.Nat.{ℕ, suc, _<_}
+use Prim.Native.Nat.{ℕ, suc, _-_, _≤_, _<_, min}
 use native.Mathlib.Omega.{arith}
-use lib.Dec.{leb, eqb}
+use lib.Dec.{leb, ltb, eqb}
 use lib.ListN.{length, getD, take, set}
 use lib.Seq.{length-take-le, getD-take, take-suc-set}
-use borrow.Author.Tests.{leb-true}
+use borrow.Author.Tests.{leb-true, ltb-true, lt-ltb}
+use Rattle.theory_spec.specs.Lists.{within}
+use Rattle.theory_spec.proofs.ListLaws.{same-test}
+use Rattle.theory_spec.proofs.TestLaws.{within-iff}
 use Rattle.model_spec.specs.States.{isConstant, width}
 use Rattle.model_spec.specs.Validity.{variablePlace, conditionPlaced, effectPlaced}
 use Rattle.model_spec.proofs.LoopLaws.{failed, passed}
-use Rattle.files_spec.specs.Reading.{Parsed, refusedUnless, entry, conditionItem, effectItem}
+use Rattle.files_spec.specs.Reading.{Parsed, refusedUnless, number, numberWithin, constant, entry, conditionItem, effectItem}
 use Rattle.reader_laws.specs.Found.{found}
+use Rattle.reader_laws.specs.EntryAt.{conditionEntry, effectEntry}
 use Rattle.reader_laws.proofs.FoundLaws.{found-refused, found-parsed, unless-failed, unless-passed, unless-refused}
-
--- reading an item is reading an entry and judging its place by the test
-pub record Judged (item read : Parsed ℕ) (test : ℕ → Bool) : Type 0 where
-  pub same : item ≡ refusedUnless 3 test read
 
 -- a place up to i is looked at in the first i + 1 places
 look-front : (l : List ℕ) (i j e : ℕ) → (leb j i && eqb (getD (take (suc i) l) j 0) e) ≡ (leb j i && eqb (getD l j 0) e)
@@ -38,28 +38,46 @@ module _ (positions : ℕ) (sizes : List ℕ) where
       ∙ ap (λ b. isConstant e || (eqb (width positions sizes (variablePlace e)) (width positions sizes i) && b)) (look-front (set l i e) i (variablePlace e) e)
 
   -- an entry of an `if` line after the first i of an array
-  pub condition-at : (before : List ℕ) (i ending : ℕ) (text : List ℕ) → i < length before
-      → Judged (conditionItem positions sizes (take i before) ending text) (entry positions sizes i ending text) (λ e. conditionPlaced positions sizes (set before i e) i e)
-  unfolding conditionItem
-  condition-at before i ending text h =
-      record { same = rw (length-take-le i before (omega arith)) (ap (λ test. refusedUnless 3 test (entry positions sizes i ending text)) (λ k e. placed-front before i e h k)) }
+  pub condition-at : (before : List ℕ) (i ending : ℕ) (text : List ℕ) → positions ≤ 16 → i < length before
+      → conditionItem positions sizes (take i before) ending text ≡ conditionEntry positions sizes before i ending text
+  unfolding conditionItem conditionEntry
+  condition-at before i ending text p h =
+      let m : min positions 16 ≡ positions = omega arith in
+      rw (length-take-le i before (omega arith), m)
+      (ap (λ test. refusedUnless 3 test (entry positions sizes i ending text)) (λ k e. placed-front before i e h k))
 
 -- an entry of a `then` line after i others
-pub effect-at : (positions : ℕ) (sizes condition before : List ℕ) {i : ℕ} (ending : ℕ) (text : List ℕ) → length before ≡ i
-    → Judged (effectItem positions sizes condition before ending text) (entry positions sizes i ending text) (effectPlaced positions sizes condition i)
-unfolding effectItem
-effect-at positions sizes condition before ending text h = record { same = rw h }
+pub effect-at : (positions : ℕ) (sizes condition before : List ℕ) {i : ℕ} (ending : ℕ) (text : List ℕ) → positions ≤ 16 → length before ≡ i
+    → effectItem positions sizes condition before ending text ≡ effectEntry positions sizes condition i ending text
+unfolding effectItem effectEntry
+effect-at positions sizes condition before ending text p h = let m : min positions 16 ≡ positions = omega arith in rw (h, m)
 
--- what reading an item gives, where reading its entry gave this
-module _ {item read : Parsed ℕ} {test : ℕ → Bool} (judged : Judged item read test) {o : ℕ} (v n : ℕ) (text : List ℕ) (e : read ≡ found o v n text) where
-  -- the entry is refused
-  pub entry-refused : (w m : ℕ) → o ≢ 0 → item ≡ found o w m text
-  entry-refused w m h = judged .same ∙ unless-refused v n text 3 test e h ∙ sym (found-refused w m text h)
+-- what is judged for its place, where reading gave this
+module _ {read : Parsed ℕ} (test : ℕ → Bool) {o : ℕ} (v n : ℕ) (text : List ℕ) (e : read ≡ found o v n text) where
+  -- nothing is read
+  pub entry-refused : (w m : ℕ) → o ≢ 0 → refusedUnless 3 test read ≡ found o w m text
+  entry-refused w m h = unless-refused v n text 3 test e h ∙ sym (found-refused w m text h)
 
   -- it is not in place, by the result of the test
-  pub entry-misplaced : (w m : ℕ) {r : Bool} → o ≡ 0 → r ≡ test v → not r ≡ true → item ≡ found 3 w m text
-  entry-misplaced w m h t f = judged .same ∙ unless-failed v n text 3 test e h (failed t f) ∙ sym (found-refused w m text (λ k. omega arith))
+  pub entry-misplaced : (w m : ℕ) {r : Bool} → o ≡ 0 → r ≡ test v → not r ≡ true → refusedUnless 3 test read ≡ found 3 w m text
+  entry-misplaced w m h t f = unless-failed v n text 3 test e h (failed t f) ∙ sym (found-refused w m text (λ k. omega arith))
 
   -- it is
-  pub entry-placed : {r : Bool} → o ≡ 0 → r ≡ test v → not r ≡ false → item ≡ found o v n text
-  entry-placed h t f = judged .same ∙ unless-passed v n text 3 test e h (passed t f) ∙ sym (found-parsed v n text h)
+  pub entry-placed : {r : Bool} → o ≡ 0 → r ≡ test v → not r ≡ false → refusedUnless 3 test read ≡ found o v n text
+  entry-placed h t f = unless-passed v n text 3 test e h (passed t f) ∙ sym (found-parsed v n text h)
+
+-- a constant below a size is a number from 0 to the one before it
+pub constant-below : (size ending : ℕ) (text : List ℕ) → 0 < size → constant size ending text ≡ numberWithin 0 (size - 1) ending text
+unfolding constant numberWithin
+constant-below size ending text h =
+    ap (λ test. refusedUnless 2 test (number ending text)) (λ k n. same-test (ltb n size) (within 0 (size - 1) n)
+    (λ e. within-iff 0 (size - 1) n .1 (omega arith, omega (arith, ltb-true n size e)))
+    (λ e. lt-ltb n size (omega (arith, within-iff 0 (size - 1) n .0 e .1))) k)
+
+-- no number is below 0, and none is at least 1 and at most 0
+pub constant-none : (ending : ℕ) (text : List ℕ) → constant 0 ending text ≡ numberWithin 1 0 ending text
+unfolding constant numberWithin
+constant-none ending text =
+    ap (λ test. refusedUnless 2 test (number ending text)) (λ k n. same-test (ltb n 0) (within 1 0 n)
+    (λ e. absurd (omega (arith, ltb-true n 0 e)))
+    (λ e. absurd (let w = within-iff 1 0 n .0 e in omega (arith, w .0, w .1))) k)
