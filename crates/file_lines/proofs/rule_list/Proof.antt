@@ -1,4 +1,4 @@
--- `reader::rule_list` meets its contract. The invariant: the first k rules stand in the array, and what is left of the text decides the list.
+-- `file_lines::rule_list` meets its contract. The invariant: the first k rules stand in the array, and what is left of the text decides the list.
 -- Assumes nothing.
 use mathlib.Core.Path.{_≡_, refl}
 use Prim.Native.Nat.{_-_, min}
@@ -8,8 +8,8 @@ use borrow.Author.Needs.{needs}
 use Rattle.model_spec.specs.Rules.{blankRule}
 use Rattle.files_spec.specs.Reading.{rulesAfter, ruleList}
 use Rattle.reader_laws.proofs.ReadLoopLaws.{SoFar, rules-list, fill-start, fill-go, fill-stop, fill-end}
-use Rattle.reader.proofs.rule_list.Statement.{statement}
-use Rattle.reader.proofs.rule_list.Tie as tie
+use Rattle.file_lines.proofs.rule_list.Statement.{statement}
+use Rattle.file_lines.proofs.rule_list.Tie as tie
 
 abbrev Inv-loop : tie.InvT-loop
 Inv-loop text at positions sizes count rules₀ next₀ k₀ total rules next k =

@@ -1,4 +1,4 @@
--- `reader::file_lines` meets its contract: line by line, a refusal passes on and a value is gone on with. The limits of the lines give what the calls require.
+-- `file_lines::file_lines` meets its contract: line by line, a refusal passes on and a value is gone on with. The limits of the lines give what the calls require.
 -- Assumes nothing.
 use mathlib.Core.Path.{_≡_, _∙_}
 use Prim.Native.Nat.{min}
@@ -9,8 +9,8 @@ use Rattle.files_spec.specs.Reading.{numberLine, sizeItem, listLine, fileLines}
 use Rattle.reader_laws.specs.Found.{found}
 use Rattle.reader_laws.proofs.FoundLaws.{found-parsed, parsed-found, then-refused, then-parsed}
 use Rattle.files_spec.proofs.LineLaws.{number-line-read}
-use Rattle.reader.proofs.file_lines.Statement.{statement}
-use Rattle.reader.proofs.file_lines.Tie as tie
+use Rattle.file_lines.proofs.file_lines.Statement.{statement}
+use Rattle.file_lines.proofs.file_lines.Tie as tie
 
 slice-aggregate-number-line : tie.Need-slice-aggregate-number-line
 slice-aggregate-number-line c = search needs
