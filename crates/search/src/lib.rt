@@ -14,12 +14,12 @@ use search_laws::Limits;
 use search_laws::Progress;
 use search_spec::Answer;
 use search_spec::NO_MOVE;
+use steps::start_state;
 use visits::visit_from;
 ghost use mathlib.Core.Path.{_≡_};
 ghost use mathlib.Core.List.{_++_};
 ghost use Prim.Native.Nat.{_≤_};
 ghost use lib.ListN.{length, take, drop};
-ghost use Rattle.theory_spec.specs.Lists.{padded};
 ghost use Rattle.search_spec.specs.Query.{asked};
 ghost use Rattle.search_spec.specs.Searched.{Searched, searched, NotRefused, SearchMeaning};
 ghost use Rattle.search_laws.specs.Visits.{Explored};
@@ -155,18 +155,4 @@ pub fn search(
         length: best.length,
         steps: progress.steps,
     }
-}
-
-// The state of a start: 0 beyond the positions.
-pub(crate) fn start_state(start: &[u8]) -> [u8; 16]
-    requires { ⌜ length (now start) ≤ 16 ⌝ }
-    ensures { λ r. ⌜ r ≡ padded 16 0 (now (start .entry)) ⌝ }
-{
-    let mut state = [0u8; 16];
-    let mut i: usize = 0;
-    while i < start.len() {
-        state[i] = start[i];
-        i += 1;
-    }
-    state
 }

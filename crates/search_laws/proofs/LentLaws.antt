@@ -22,7 +22,7 @@ use Rattle.search_spec.proofs.VisitedLaws.{start-fits-iff}
 use Rattle.search_spec.proofs.Demand.{blank-buffer}
 use Rattle.search_spec.proofs.PlanVisited.{start-state}
 use Rattle.search_spec.proofs.MeaningLaws.{not-refused-iff}
-use Rattle.search_laws.specs.Visits.{ZerosFrom, Lent, Reached}
+use Rattle.search_laws.specs.Visits.{EndsAt, Lent, Reached}
 use Rattle.search_laws.specs.declared.Limits.{Limits}
 
 module _ (set : RuleSet) (v : WellFormed set) where
@@ -32,15 +32,15 @@ module _ (set : RuleSet) (v : WellFormed set) where
       let one = width-beyond (set .positions) (set .sizes) i h in
       ⊎-elim (λ (b : e < 16). omega (arith, k .constant b, one)) (λ (b : 16 ≤ e). absurd (omega (arith, k .equalSizes b, valid-width-position set v (e - 16) (k .position b), one))) (below? e 16)
 
-  -- so a line of a rule has only zeros there
-  line-beyond : (condition line : List ℕ) → length line ≡ 16 → ((i : ℕ) → i < 16 → EntryValid (set .positions) (set .sizes) condition i (getD line i 0)) → ZerosFrom (set .positions) line
-  line-beyond condition line size entries i h =
-      ⊎-elim (λ b. entry-beyond condition i (getD line i 0) h (entries i b)) (λ b. List·getD-eq-default line 0 {n = i} (omega (arith, size))) (below? i 16)
+  -- so a line of a rule ends in zeros
+  line-beyond : (condition line : List ℕ) → length line ≡ 16 → ((i : ℕ) → i < 16 → EntryValid (set .positions) (set .sizes) condition i (getD line i 0)) → EndsAt (set .positions) line
+  line-beyond condition line size entries =
+      (size, λ i h. ⊎-elim (λ b. entry-beyond condition i (getD line i 0) h (entries i b)) (λ b. List·getD-eq-default line 0 {n = i} (omega (arith, size))) (below? i 16))
 
   -- and so has a state of the set's sizes
-  state-beyond : (s : List ℕ) → StateOf set s → ZerosFrom (set .positions) s
-  state-beyond s k i h =
-      ⊎-elim (λ (b : i < 16). omega (arith, k .1 i b, width-beyond (set .positions) (set .sizes) i h)) (λ b. List·getD-eq-default s 0 {n = i} (omega (arith, k .0))) (below? i 16)
+  state-beyond : (s : List ℕ) → StateOf set s → EndsAt (set .positions) s
+  state-beyond s k =
+      (k .0, λ i h. ⊎-elim (λ (b : i < 16). omega (arith, k .1 i b, width-beyond (set .positions) (set .sizes) i h)) (λ b. List·getD-eq-default s 0 {n = i} (omega (arith, k .0))) (below? i 16))
 
 module _ (set : RuleSet) (query : Query) (notRefused : NotRefused set query) where
   -- what the search goes by
@@ -79,11 +79,11 @@ module _ (set : RuleSet) (query : Query) (notRefused : NotRefused set query) whe
         goalLimit = omega (arith, goal .1 .0, valid .positionLimits);
         conditionEnds = λ k h.
             let w = valid .lines k h in
-            subst (ZerosFrom (set .positions)) (sym (List·getD-map (λ rule. rule .condition) (set .rules) k noRule))
+            subst (EndsAt (set .positions)) (sym (List·getD-map (λ rule. rule .condition) (set .rules) k noRule))
             (line-beyond set valid (getD (set .rules) k noRule .condition) (getD (set .rules) k noRule .condition) (w .conditionLength) (w .conditionEntries));
         effectEnds = λ k h.
             let w = valid .lines k h in
-            subst (ZerosFrom (set .positions)) (sym (List·getD-map (λ rule. rule .effect) (set .rules) k noRule))
+            subst (EndsAt (set .positions)) (sym (List·getD-map (λ rule. rule .effect) (set .rules) k noRule))
             (line-beyond set valid (getD (set .rules) k noRule .condition) (getD (set .rules) k noRule .effect) (w .effectLength) (w .effectEntries));
       }
 

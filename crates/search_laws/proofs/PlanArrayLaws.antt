@@ -1,17 +1,17 @@
 -- Laws of a plan in an array: its first n moves are the sequence so far, and one element, x, stands in every place behind them.
 -- Assumes nothing.
 use mathlib.Core.Path.{_≡_, sym, ap, ap₂, _∙_}
-use mathlib.Core.Bool.{true}
 use mathlib.Core.List.{List, [], _∷_, _++_}
 use Prim.Native.Nat.{ℕ, suc, _+_, _-_, _≤_, _<_}
 use native.Mathlib.Omega.{arith}
 use lib.ListN.{length, take, set, replicate, length-append, length-take}
-use lib.Seq.{append-snoc, set-at}
+use lib.Seq.{take-all, append-snoc, set-at}
 use Rattle.theory_spec.specs.Lists.{padded}
 use Rattle.theory_spec.proofs.ListLaws.{padded-length}
+use Rattle.model_spec.specs.States.{State}
 use Rattle.search_spec.specs.Searched.{noMove}
-use Rattle.search_laws.specs.declared.Best.{Best}
-use Rattle.search_laws.specs.Visits.{bestOf}
+use Rattle.search_laws.specs.declared.Progress.{Progress}
+use Rattle.search_laws.specs.Visits.{notedMoves, noted}
 
 module _ {A : Type 0} (size : ℕ) (x : A) (plan : List A) (n : ℕ) (rest : plan ≡ padded size x (take n plan)) where
   -- the sequence so far has n moves
@@ -29,8 +29,11 @@ module _ {A : Type 0} (size : ℕ) (x : A) (plan : List A) (n : ℕ) (rest : pla
       ap (λ l. set l n v) (rest ∙ ap (λ k. q ++ replicate k x) room) ∙ set-at q x (replicate (size - length (q ++ (v ∷ []))) x) v n moves
       ∙ sym (append-snoc q v (replicate (size - length (q ++ (v ∷ []))) x))
 
--- it is the best plan that the sequence makes
-pub plan-best : (cost : ℕ) (plan : List ℕ) (n : ℕ) → plan ≡ padded 32 noMove (take n plan) → n ≤ 32
-    → _≡_ {A = Best} (record { found = true; cost = cost; length = n; moves = plan }) (bestOf cost (take n plan))
-unfolding bestOf
-plan-best cost plan n rest h = ap₂ (λ k moves. record { found = true; cost = cost; length = k; moves = moves }) (sym (plan-moves 32 noMove plan n rest h)) rest
+-- noting its moves is noting the sequence, for a goal of at most sixteen bytes
+pub noted-plan : (goal : List ℕ) (limit cost n : ℕ) (plan : List ℕ) (s : State) (p found : Progress)
+    → length goal ≤ 16 → n ≤ 32 → plan ≡ padded 32 noMove (take n plan)
+    → found ≡ notedMoves (take 16 goal) limit cost n plan s p → found ≡ noted goal limit cost (take n plan) s p
+unfolding noted
+noted-plan goal limit cost n plan s p found short room rest e =
+    e ∙ ap (λ l. notedMoves l limit cost n plan s p) (take-all 16 goal short)
+    ∙ ap₂ (λ k moves. notedMoves goal limit cost k moves s p) (sym (plan-moves 32 noMove plan n rest room)) rest

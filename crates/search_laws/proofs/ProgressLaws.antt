@@ -17,7 +17,7 @@ use Rattle.theory_spec.specs.Recursion.{better, improved, bestAfter, best, leas
 use Rattle.theory_spec.proofs.FloorLaws.{least-min}
 use Rattle.model_spec.specs.States.{State}
 use Rattle.search_spec.specs.Query.{meetsGoal}
-use Rattle.search_laws.specs.Visits.{replaces, bestOf, noBest, bestAt, noted, noProgress, asBest}
+use Rattle.search_laws.specs.Visits.{replaces, bestOf, noBest, bestAt, notedMoves, noted, noProgress, asBest}
 use Rattle.search_laws.specs.declared.Best.{Best}
 use Rattle.search_laws.specs.declared.Progress.{Progress}
 
@@ -33,7 +33,7 @@ module _ (cost : ℕ → ℕ) (limit : ℕ) where
 
   -- that is what the search notes
   pub noted-as : (goal : List ℕ) (q : Sequence) (s : State) (p : Progress) → noted goal limit (costOf cost q) q s p ≡ notedAs (meetsGoal goal s) q p
-  unfolding noted bestAt
+  unfolding noted notedMoves bestAt bestOf
   noted-as goal q s p = refl
 
   -- where the sequence itself tells whether it leads to the goal

@@ -3,16 +3,16 @@
 use mathlib.Core.Path.{_≡_}
 use mathlib.Core.Bool.{Bool, true, false, not, cond, _&&_, _||_}
 use mathlib.Core.Option.{Option, some, none}
-use mathlib.Core.List.{List, []}
-use Prim.Native.Nat.{ℕ, _+_, _-_, _≤_, _<_, min}
+use mathlib.Core.List.{List, [], _∷_}
+use Prim.Native.Nat.{ℕ, zero, suc, _+_, _-_, _≤_, _<_, min}
 use lib.Dec.{leb, ltb, eqb}
 use lib.ListN.{length, getD, take, drop, replicate}
-use Rattle.theory_spec.specs.Lists.{onlyIf, padded}
+use Rattle.theory_spec.specs.Lists.{onlyIf, padded, same}
 use Rattle.theory_spec.specs.Sequences.{Sequence, costOf, Numbered}
 use Rattle.theory_spec.specs.Indices.{indexOf}
 use Rattle.theory_spec.specs.Plans.{reaches}
 use Rattle.theory_spec.specs.Recursion.{last, exploreWith, best, leastCost}
-use Rattle.model_spec.specs.States.{State, applicable, successor}
+use Rattle.model_spec.specs.States.{State, valuesOf, applicable, successor}
 use Rattle.model_spec.specs.Rules.{stepOf, ruleCost, sequenceCost}
 use Rattle.model_spec.specs.declared.RuleSet.{RuleSet}
 use Rattle.search_spec.specs.Query.{Query, startState, meetsGoal, visitedBy}
@@ -26,6 +26,17 @@ use Rattle.search_laws.specs.declared.Limits.{Limits}
 -- the state that rule r leads to, by the conditions and effects
 unfoldable pub lentStep : List (List ℕ) → List (List ℕ) → ℕ → State → Option State
 lentStep conditions effects r s = onlyIf (applicable (getD conditions (r - 1) []) s) (successor (getD effects (r - 1) []) s)
+
+-- the first n places of a state hold what a condition's entries there stand for
+unfoldable pub meetsWithin : ℕ → List ℕ → State → Bool
+meetsWithin n condition s = same (valuesOf (take n condition) s) (take n s)
+
+-- a list with the first n elements of another over its own
+unfoldable pub laidOver : ℕ → List ℕ → List ℕ → List ℕ
+laidOver zero new old = old
+laidOver (suc n) [] old = old
+laidOver (suc n) (x ∷ new) [] = []
+laidOver (suc n) (x ∷ new) (y ∷ old) = x ∷ laidOver n new old
 
 -- what rule r costs
 unfoldable pub lentCost : List ℕ → ℕ → ℕ
@@ -48,15 +59,22 @@ bestOf cost q = record { found = true; cost = cost; length = length q; moves = p
 unfoldable pub noBest : Best
 noBest = record { found = false; cost = 0; length = 0; moves = replicate 32 noMove }
 
--- the best plan after q, which costs so much and has led to the state s
-unfoldable pub bestAt : List ℕ → ℕ → Sequence → State → Best → Best
-bestAt goal cost q s best = cond (meetsGoal goal s && replaces best cost (length q)) (bestOf cost q) best
+-- the best plan after one whose n moves stand in an array, which costs so much and has led to the state s
+unfoldable pub bestAt : List ℕ → ℕ → ℕ → List ℕ → State → Best → Best
+bestAt goal cost n moves s best =
+    cond (meetsGoal goal s && replaces best cost n) (record { found = true; cost = cost; length = n; moves = moves }) best
 
--- what visiting q makes of the progress: one step more, if the limit allows it; else the limit is exceeded, and the floor is no higher than the sequence's cost
-unfoldable pub noted : List ℕ → ℕ → ℕ → Sequence → State → Progress → Progress
-noted goal limit cost q s p =
-    cond (ltb (p .steps) limit) (record { steps = p .steps + 1; exceeded = false; best = bestAt goal cost q s (p .best); floor = p .floor })
+-- what visiting a sequence, whose n moves stand in an array, makes of the progress: one step more, if the limit allows it;
+-- else the limit is exceeded, and the floor is no higher than the sequence's cost
+unfoldable pub notedMoves : List ℕ → ℕ → ℕ → ℕ → List ℕ → State → Progress → Progress
+notedMoves goal limit cost n moves s p =
+    cond (ltb (p .steps) limit)
+    (record { steps = p .steps + 1; exceeded = false; best = bestAt goal cost n moves s (p .best); floor = p .floor })
     (record { steps = p .steps; exceeded = true; best = p .best; floor = min (p .floor) cost })
+
+-- the same for a sequence q, whose moves stand in front of a blank rest
+unfoldable pub noted : List ℕ → ℕ → ℕ → Sequence → State → Progress → Progress
+noted goal limit cost q = notedMoves goal limit cost (length q) (padded 32 noMove q)
 
 -- the progress before any sequence is visited
 unfoldable pub noProgress : Progress
@@ -73,14 +91,18 @@ visitsFrom conditions effects costs blocked goal limits =
 abbrev pub ZerosFrom : ℕ → List ℕ → Type 0
 ZerosFrom n l = (i : ℕ) → n ≤ i → getD l i 0 ≡ 0
 
+-- sixteen entries, or a state, with only zeros from a place on
+abbrev pub EndsAt : ℕ → List ℕ → Type 0
+EndsAt n l = (length l ≡ 16) × ZerosFrom n l
+
 -- what stays the same all through: numbers within their limits, and rules whose lines are zero beyond the positions
 pub record Lent (conditions effects : List (List ℕ)) (goal : List ℕ) (limits : Limits) : Type 0 where
   pub positionLimit : limits .positions ≤ 16
   pub countLimits : (1 ≤ limits .count) × (limits .count ≤ 31)
   pub reachLimits : (1 ≤ limits .reach) × (limits .reach ≤ 3)
   pub goalLimit : length goal ≤ 16
-  pub conditionEnds : (k : ℕ) → k < limits .count → ZerosFrom (limits .positions) (getD conditions k [])
-  pub effectEnds : (k : ℕ) → k < limits .count → ZerosFrom (limits .positions) (getD effects k [])
+  pub conditionEnds : (k : ℕ) → k < limits .count → EndsAt (limits .positions) (getD conditions k [])
+  pub effectEnds : (k : ℕ) → k < limits .count → EndsAt (limits .positions) (getD effects k [])
 
 -- the first n moves of the plan are the sequence so far: rules of the set, at that cost, with at most `left` moves to come; the rest of the plan is blank, and the state ends in zeros
 pub record Reached (costs : List ℕ) (limits : Limits) (state plan : List ℕ) (n cost left : ℕ) : Type 0 where
@@ -88,7 +110,7 @@ pub record Reached (costs : List ℕ) (limits : Limits) (state plan : List ℕ) 
   pub rest : plan ≡ padded 32 noMove (take n plan)
   pub rules : Numbered (limits .count) (take n plan)
   pub total : cost ≡ costOf (lentCost costs) (take n plan)
-  pub stateEnd : ZerosFrom (limits .positions) state
+  pub stateEnd : EndsAt (limits .positions) state
 
 -- ── What the whole search comes to ───────────────────────────────────────────────────────────────
 

@@ -1,7 +1,9 @@
 -- `search::explored` meets its contract: what it lends is as the recursion asks, and the visits from the empty sequence on come to what the query asks for.
 -- Assumes nothing.
-use mathlib.Core.Path.{refl}
+use mathlib.Core.Path.{_≡_, refl, ap, _∙_}
+use lib.Seq.{take-all}
 use borrow.Author.Needs.{needs}
+use Rattle.theory_spec.specs.Lists.{padded}
 use Rattle.search_laws.specs.Visits.{noBest, noProgress}
 use Rattle.search_laws.proofs.ExploredLaws.{explored-whole}
 use Rattle.search_laws.proofs.LentLaws.{start-fits, table-fits, lent-whole, reached-first}
@@ -33,9 +35,16 @@ cast-t24 : tie.Need-cast-t24
 cast-t24 c = search needs
 
 start-state-requires : tie.Need-start-state-requires
-start-state-requires c κs =
-    let start = c .before .before .before .before .before .before .before .before .before .before .before in
-    start-fits (start .args .set) _ (start .pre)
+start-state-requires c κs = search needs
+
+abbrev startOf : tie.After-start-state → tie.Start
+startOf c = c .before .before .before .before .before .before .before .before .before .before .before .before
+
+-- the start's bytes are a state's first
+started : (c : tie.After-start-state) → let s = startOf c in c .start-state .result ≡ padded 16 0 (s .args .start .now)
+started c =
+    let s = startOf c in
+    c .start-state .ensures ∙ ap (padded 16 0) (take-all 16 (s .args .start .now) (start-fits (s .args .set) _ (s .pre)))
 
 visit-from-requires : tie.Need-visit-from-requires
 visit-from-requires c κs =
@@ -43,7 +52,7 @@ visit-from-requires c κs =
     let looked = placed .before .before in
     let lent = looked .before .before .before .before in
     let start = lent .before .before .before .before .before .before in
-    rw (lent .before .before .conditions-of .ensures, lent .before .effects-of .ensures, lent .costs-of .ensures, placed .start-state .ensures)
+    rw (lent .before .before .conditions-of .ensures, lent .before .effects-of .ensures, lent .costs-of .ensures, started placed)
     (lent-whole (start .args .set) _ (start .pre), reached-first (start .args .set) _ (start .pre) _)
 
 returns : tie.Need-returns
@@ -53,7 +62,7 @@ returns c =
     let looked = placed .before .before .before in
     let lent = looked .before .before .before in
     let start = lent .before .before .before .before .before .before in
-    rw (c .visit-from .ensures, lent .before .before .conditions-of .ensures, lent .before .effects-of .ensures, lent .costs-of .ensures, placed .start-state .ensures)
+    rw (c .visit-from .ensures, lent .before .before .conditions-of .ensures, lent .before .effects-of .ensures, lent .costs-of .ensures, started placed)
     (explored-whole (start .args .set) _ (start .pre) _ (looked .fill-lookup .ensures) _ refl)
 
 pub explored-spec : {M : Type 1} → statement M

@@ -6,6 +6,7 @@ use mathlib.Core.Logic.{⊎-elim}
 use mathlib.Core.List.{[], _∷_, _++_}
 use Prim.Native.Nat.{ℕ, _+_, _-_, _≤_, _<_}
 use native.Mathlib.Omega.{arith}
+use borrow.Author.Needs.{needs}
 use borrow.Fn.Kinds.{In}
 use borrow.Fn.PlainCycle.{Measures, is, falls, and}
 use lib.ListN.{take, set}
@@ -13,12 +14,13 @@ use lib.Seq.{set-set}
 use Rattle.theory_spec.specs.Lists.{padded}
 use Rattle.tables_spec.proofs.CountLaws.{count-bound}
 use Rattle.search_spec.specs.Searched.{noMove}
-use Rattle.search_laws.proofs.PlanArrayLaws.{plan-more}
-use Rattle.search_laws.proofs.VisitLoopLaws.{goes-within, restFrom, visits-last, whole, whole-exceeded, loop-end, turn-taken, turn-left, plan-next, reached-next}
+use Rattle.search_laws.specs.Visits.{noted}
+use Rattle.search_laws.proofs.PlanArrayLaws.{plan-more, noted-plan}
+use Rattle.search_laws.proofs.VisitLoopLaws.{goes-cheap, restFrom, visits-last, whole, whole-exceeded, loop-end, turn-taken, turn-left, plan-next, reached-next}
 use Rattle.search.proofs.lookup.first_place.Reads as first-place-reads
-use Rattle.search.proofs.visits.goes_on.Reads as goes-on-reads
-use Rattle.search.proofs.visits.noted.Reads as noted-reads
-use Rattle.search.proofs.visits.put_after.Reads as put-after-reads
+use Rattle.steps.proofs.goes_on.Reads as goes-on-reads
+use Rattle.plans.proofs.noted.Reads as noted-reads
+use Rattle.steps.proofs.put_after.Reads as put-after-reads
 use Rattle.search.proofs.visits.visit_from.Reads as visit-from
 use Rattle.search.proofs.visits.visit_from.Kinds as visit-from-kinds
 use Rattle.search.proofs.visits.+visit_from.Lts-visit_from as lts
@@ -61,22 +63,29 @@ abbrev μ : lts.MeasureT-loop
 
 module _ (t : ℕ) where
   noted-requires : lts.Need-noted-requires (calls t) (at t) visit-from.Post Inv μ
-  noted-requires c κs =
-      let asked = c .before .before .pre .1 in
-      (asked .0 .goalLimit, omega (arith, asked .1 .room), asked .1 .rest)
+  noted-requires c κs = search needs
 
   returns : lts.Need-returns (calls t) (at t) visit-from.Post Inv μ
-  returns c = c .noted .ensures ∙ visits-last _ _ _ _ _ _ _ _ _ _ _ (c .before .if1 .taken) (c .before .before .before .pre .1 .1 .total)
+  returns c =
+      let asked = c .before .before .before .pre .1 in
+      visits-last _ _ _ _ _ _ _ _ _ _ _ _ (c .before .if1 .taken) (asked .1 .total)
+      (noted-plan _ _ _ _ _ _ _ _ (asked .0 .goalLimit) (omega (arith, asked .1 .room)) (asked .1 .rest) (c .noted .ensures))
 
   noted-requires-2 : lts.Need-noted-requires-2 (calls t) (at t) visit-from.Post Inv μ
-  noted-requires-2 c κs =
-      let asked = c .before .before .pre .1 in
-      (asked .0 .goalLimit, omega (arith, asked .1 .room), asked .1 .rest)
+  noted-requires-2 c κs = search needs
+
+  -- the sequence itself is noted
+  noted-first : (c : lts.After-noted2 (calls t) (at t) visit-from.Post Inv μ)
+      → let s = c .before .before .before in
+      c .noted2 .result ≡ noted (s .args .goal .now) (s .args .limits .«step_limit») (s .args .cost) (take (s .args .depth) (s .args .plan .now)) (s .args .state .now) (s .args .progress)
+  noted-first c =
+      let asked = c .before .before .before .pre .1 in
+      noted-plan _ _ _ _ _ _ _ _ (asked .0 .goalLimit) (omega (arith, asked .1 .room)) (asked .1 .rest) (c .noted2 .ensures)
 
   returns-2 : lts.Need-returns-2 (calls t) (at t) visit-from.Post Inv μ
   returns-2 c =
       let noted = c .before in
-      whole-exceeded _ _ _ _ _ _ _ _ _ _ _ _ (noted .before .if1 .left) (noted .before .before .before .pre .1 .1 .total) (noted .noted2 .ensures) (c .if2 .taken)
+      whole-exceeded _ _ _ _ _ _ _ _ _ _ _ _ (noted .before .if1 .left) (noted .before .before .before .pre .1 .1 .total) (noted-first noted) (c .if2 .taken)
 
   first-place-requires : lts.Need-first-place-requires (calls t) (at t) visit-from.Post Inv μ
   first-place-requires c κs =
@@ -133,10 +142,7 @@ module _ (t : ℕ) where
   index-1-goes-on c = omega (arith, near (c .before .before))
 
   goes-on-requires : lts.Need-goes-on-requires (calls t) (at t) visit-from.Post Inv μ
-  goes-on-requires c κs =
-      let l = c .before .before .before .before .before in
-      let asked = start l .pre .1 in
-      (asked .0 .positionLimit, asked .0 .conditionEnds (l .loop .k) (c .before .before .before .if3 .taken), asked .1 .stateEnd)
+  goes-on-requires c κs = search needs
 
   mul-put-after : lts.Need-mul-put-after (calls t) (at t) visit-from.Post Inv μ
   mul-put-after c = omega (arith, near (c .before .before .before .before .before))
@@ -145,10 +151,7 @@ module _ (t : ℕ) where
   index-1-put-after c = omega (arith, near (c .before .before .before .before .before))
 
   put-after-requires : lts.Need-put-after-requires (calls t) (at t) visit-from.Post Inv μ
-  put-after-requires c κs =
-      let turn = c .before .before .before .before .before .before .before in
-      let lent = start (turn .before .before) .pre .1 .0 in
-      (lent .positionLimit, lent .effectEnds (turn .before .before .loop .k) (turn .if3 .taken), refl)
+  put-after-requires c κs = search needs
 
   cast-longer : lts.Need-cast-longer (calls t) (at t) visit-from.Post Inv μ
   cast-longer c = omega (arith, near (c .before .before .before .before .before .before .before .before))
@@ -165,7 +168,7 @@ module _ (t : ℕ) where
   cast-visit-from : lts.Need-cast-visit-from (calls t) (at t) visit-from.Post Inv μ
   cast-visit-from c =
       let went = c .before .before .before .before .before in
-      record { fits = goes-within _ _ _ _ _ _ (went .before .goes-on .ensures) (went .if4 .taken) (went .before .before .before .before .before .before .struct-known .given .1 .1 .1 .0 .fits) }
+      record { fits = goes-cheap _ _ _ _ _ _ (went .before .goes-on .ensures) (went .if4 .taken) (went .before .before .before .before .before .before .struct-known .given .1 .1 .1 .0 .fits) }
 
   sub-visit-from : lts.Need-sub-visit-from (calls t) (at t) visit-from.Post Inv μ
   sub-visit-from c = omega (arith, c .before .before .before .before .before .before .before .before .before .before .before .before .before .before .before .before .before .before .if1 .left)
@@ -181,7 +184,7 @@ module _ (t : ℕ) where
         omega (arith, pre .0, more),
         (
           lent,
-          reached-next _ _ _ _ _ _ _ reached _ _ (l .loop .inv .2 _) (turn .if3 .taken) _ (lent .effectEnds _ (turn .if3 .taken)) _ (c .before .before .put-after .ensures) _ (omega (arith, reached .room, more)),
+          reached-next _ _ _ _ _ _ _ reached _ _ (l .loop .inv .2 _) _ _ _ lent (turn .if3 .taken) _ (c .before .before .put-after .ensures) _ (omega (arith, reached .room, more)),
         ),
       )
 
@@ -200,13 +203,14 @@ module _ (t : ℕ) where
       ⊎-elim
       (λ w. (
         omega (arith, turn .if3 .taken),
-        turn-taken _ _ _ _ _ _ _ _ _ first (asked .1 .total) (asked .0 .reachLimits .0) _ _ _ _ _ (turn .if3 .taken) (l .loop .inv .1) _ (c .before .goes-on .ensures) (w .0 .taken) _
-            (plan-next _ _ _ _ _ _ _ (asked .1) _ _ (l .loop .inv .2 _)) _ (w .3 .ensures) (w .6 .result) _ (w .7) (w .6 .ensures),
+        turn-taken _ _ _ _ _ _ _ _ _ first (asked .1 .total) (asked .0 .reachLimits .0) _ _ _ _ _ (turn .if3 .taken) (l .loop .inv .1) (asked .0) (asked .1 .stateEnd) _
+            (c .before .goes-on .ensures) (w .0 .taken) _ (plan-next _ _ _ _ _ _ _ (asked .1) _ _ (l .loop .inv .2 _)) _ (w .3 .ensures) (w .6 .result) _ (w .7) (w .6 .ensures),
         λ number. rw (w .8) (set-set (l .loop .longer) (start l .args .depth) (l .loop .k + 1) number ∙ l .loop .inv .2 number),
       ))
       (λ w. (
         omega (arith, turn .if3 .taken),
-        rw (w .1) (turn-left _ _ _ _ _ _ _ _ _ first (asked .1 .total) (asked .0 .reachLimits .0) _ _ _ _ _ (turn .if3 .taken) (l .loop .inv .1) _ (c .before .goes-on .ensures) (w .0 .left)),
+        rw (w .1) (turn-left _ _ _ _ _ _ _ _ _ first (asked .1 .total) (asked .0 .reachLimits .0) _ _ _ _ _ (turn .if3 .taken) (l .loop .inv .1) (asked .0) (asked .1 .stateEnd) _
+            (c .before .goes-on .ensures) (w .0 .left)),
         λ number. rw (w .2) (l .loop .inv .2 number),
       ))
       (c .if4 .came)
@@ -215,7 +219,7 @@ module _ (t : ℕ) where
   returns-3 c =
       let l = c .before .before in
       let noted = l .before .before .before .before .before in
-      sym (loop-end _ _ _ _ _ _ _ _ _ _ _ (c .if3 .left)) ∙ l .loop .inv .1 ∙ whole _ _ _ _ _ _ _ _ _ _ _ _ (noted .before .if1 .left) (start l .pre .1 .1 .total) (noted .noted2 .ensures)
+      sym (loop-end _ _ _ _ _ _ _ _ _ _ _ (c .if3 .left)) ∙ l .loop .inv .1 ∙ whole _ _ _ _ _ _ _ _ _ _ _ _ (noted .before .if1 .left) (start l .pre .1 .1 .total) (noted-first noted)
 
 pub +visit-from-spec : {M : Type 1} → statement M
 +visit-from-spec =

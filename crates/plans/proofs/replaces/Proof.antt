@@ -1,11 +1,11 @@
--- `search::visits::replaces` meets its contract: by the tests on the way.
+-- `plans::replaces` meets its contract: by the tests on the way.
 -- Assumes nothing.
 use mathlib.Core.Path.{_≡_}
 use native.Mathlib.Omega.{arith}
 use borrow.Author.Tests.{lt-ltb, le-ltb, eq-eqb, ne-eqb}
 use Rattle.search_laws.specs.Visits.{replaces}
-use Rattle.search.proofs.visits.replaces.Statement.{statement}
-use Rattle.search.proofs.visits.replaces.Tie as tie
+use Rattle.plans.proofs.replaces.Statement.{statement}
+use Rattle.plans.proofs.replaces.Tie as tie
 
 returns : tie.Need-returns
 unfolding replaces

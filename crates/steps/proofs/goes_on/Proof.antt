@@ -1,12 +1,12 @@
--- `search::visits::goes_on` meets its contract: by the tests on the way.
+-- `steps::goes_on` meets its contract: by the tests on the way.
 -- Assumes nothing.
 use mathlib.Core.Path.{sym, _∙_}
 use lib.Dec.{leb}
 use borrow.Author.Needs.{needs}
 use borrow.Author.Tests.{lt-leb, le-leb, eq-eqb, ne-eqb}
 use Rattle.model_spec.proofs.LoopLaws.{first-fails, second-fails}
-use Rattle.search.proofs.visits.goes_on.Statement.{statement}
-use Rattle.search.proofs.visits.goes_on.Tie as tie
+use Rattle.steps.proofs.goes_on.Statement.{statement}
+use Rattle.steps.proofs.goes_on.Tie as tie
 
 returns : tie.Need-returns
 returns c = sym (first-fails _ (second-fails (leb (c .before .args .total) (c .before .args .max-cost)) (ne-eqb _ _ (c .if1 .taken))))
