@@ -6,5 +6,8 @@ ghost use Prim.Native.Nat.{min};
 pub fn at_most(number: u8, limit: u8) -> u8
     ensures { λ r. ⌜ r ≡ min number limit ⌝ }
 {
-    if number < limit { number } else { limit }
+    if number < limit {
+        return number;
+    }
+    limit
 }
