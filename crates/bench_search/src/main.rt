@@ -158,7 +158,7 @@ fn run(set: RuleSet, bounds: Bounds, start: &[u8], goal: &[u8]) {
     let table = &mut space[0..2 * entries];
     print(
         b"built=",
-        pruning::build_table(set, bounds.reach, table) as u64,
+        builder::build_table(set, bounds.reach, table) as u64,
     );
     let answer = search::search(
         set,

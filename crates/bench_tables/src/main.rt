@@ -90,7 +90,7 @@ fn totals_of(table: &[u8]) -> Totals {
 fn build(set: RuleSet, table: &mut [u8], times: u32) -> u64 {
     let mut built: u64 = 0;
     for _ in 0..times {
-        if pruning::build_table(set, 3, table) == 0 {
+        if builder::build_table(set, 3, table) == 0 {
             built = wrapping_add_u64(built, 1);
         }
     }
@@ -101,7 +101,7 @@ fn build(set: RuleSet, table: &mut [u8], times: u32) -> u64 {
 fn check(set: RuleSet, table: &[u8], times: u32) -> u64 {
     let mut accepted: u64 = 0;
     for _ in 0..times {
-        if pruning::check_table(set, 3, table) == 0 {
+        if checker::check_table(set, 3, table) == 0 {
             accepted = wrapping_add_u64(accepted, 1);
         }
     }

@@ -303,7 +303,7 @@ fn print_built(set: RuleSet, reach: usize, table: &mut [u8])
     requires { ⌜ length (now table) ≤ 65536 ⌝ }
 {
     fill_from(table, 0, 170);
-    let outcome = pruning::build_table(set, reach, table);
+    let outcome = builder::build_table(set, reach, table);
     print_byte(outcome);
     if outcome == 0 {
         print_table(set.count, table);
@@ -320,13 +320,13 @@ fn print_built(set: RuleSet, reach: usize, table: &mut [u8])
 fn print_checked(set: RuleSet, reach: usize, entries: &[u8], table: &mut [u8]) {
     fill_from(table, 0, 255);
     put_all(true, entries, table);
-    print_byte(pruning::check_table(set, reach, table));
+    print_byte(checker::check_table(set, reach, table));
 }
 
 // Checks the table with these bytes changed.
 fn print_changed(set: RuleSet, reach: usize, bytes: &[u8], table: &mut [u8]) {
     put_all(false, bytes, table);
-    print_byte(pruning::check_table(set, reach, table));
+    print_byte(checker::check_table(set, reach, table));
 }
 
 // The answer to `b`, `c` or `k`, on a front part of the table.

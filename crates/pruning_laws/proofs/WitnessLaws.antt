@@ -24,7 +24,7 @@ use Rattle.macros_spec.specs.Composition.{Lines}
 use Rattle.macros_spec.specs.Redundancy.{endsIn, covers}
 use Rattle.model_spec.proofs.LoopLaws.{rules-left}
 use Rattle.tables_spec.specs.Table.{sequenceCount, kept}
-use Rattle.pruning_laws.specs.Witnesses.{firstBehind, serves}
+use Rattle.pruning_laws.specs.Witnesses.{firstBehind, serves, firstWitness}
 use Rattle.tables_spec.proofs.CountLaws.{behind-bound, count-bound}
 
 -- ── The first in joined lists ────────────────────────────────────────────────────────────────────
@@ -70,6 +70,18 @@ module _ (m : ℕ) (few : m ≤ 31) where
       let e : i * m + (r - 1 + 1) ≡ i * m + r = omega (arith, k .0) in
       let b : i * m + (r - 1 + 1) < sequenceCount m (suc n) = behind-bound m n i (r - 1) h (omega (arith, k .0, k .1)) in
       index-fits (suc n) (i * m + r) q (omega arith) (k .2) (omega arith) f
+
+-- ── Sets that are searched ───────────────────────────────────────────────────────────────────────
+
+module _ (set : RuleSet) (i : ℕ) (b : Option Lines) (cost : ℕ) (among : List Sequence) where
+  pub witness-searched : set .count ≤ 31
+      → firstWitness set i b cost among ≡ firstBehind (set .count) i (serves set b cost) among
+  unfolding firstWitness
+  witness-searched few = rw (le-leb (set .count) 31 few)
+
+  pub witness-unsearched : 31 < set .count → firstWitness set i b cost among ≡ kept
+  unfolding firstWitness
+  witness-unsearched many = rw (lt-leb (set .count) 31 many)
 
 -- ── One more rule in front ───────────────────────────────────────────────────────────────────────
 

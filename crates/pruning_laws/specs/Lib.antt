@@ -1,1 +1,2 @@
+pub mod ShortSequences
 pub mod Witnesses

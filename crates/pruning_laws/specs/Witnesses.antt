@@ -20,3 +20,8 @@ firstBehind m i test (q ∷ later) = cond (test q) (indexFrom m i q) (firstBehin
 -- a is a witness of a sequence with these vectors and this cost: it costs no more, and there are no vectors, or its rules run in turn on the condition, as on a state of entries, and end in the effect
 unfoldable pub serves : RuleSet → Option Lines → ℕ → Sequence → Bool
 serves set b cost a = leb (sequenceCost set a) cost && covers set a b
+
+-- the first witness of a sequence with these vectors and this cost, among sequences behind one of index i, by its index;
+-- 65535 if there is none. A set of more than 31 rules is not searched
+unfoldable pub firstWitness : RuleSet → ℕ → Option Lines → ℕ → List Sequence → ℕ
+firstWitness set i b cost among = cond (leb (set .count) 31) (firstBehind (set .count) i (serves set b cost) among) kept

@@ -1,6 +1,6 @@
 // What is judged of a query before any sequence is visited.
+use checker::check_table;
 use model_spec::RuleSet;
-use pruning::check_table;
 use search_spec::ANY_VALUE;
 ghost use mathlib.Core.Path.{_≡_};
 ghost use Prim.Native.Nat.{_≤_};

@@ -3,10 +3,10 @@ mod marks;
 mod text;
 
 use buffers::fill_from;
+use builder::build_table;
 use marks::count_marks;
 use marks::put_marks;
 use model_spec::RuleSet;
-use pruning::build_table;
 use text::put_number_line;
 ghost use mathlib.Core.Path.{_≡_};
 ghost use mathlib.Core.Bool.{cond};

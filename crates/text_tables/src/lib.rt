@@ -19,7 +19,7 @@ pub fn table_size(text: &[u8], reach: usize) -> TableSize
             length: 0,
         };
     }
-    pruning::table_size(file.set, reach)
+    tables::table_size(file.set, reach)
 }
 
 // Builds the table, or zeroes it.
@@ -34,7 +34,7 @@ pub fn build_table(text: &[u8], reach: usize, table: &mut [u8]) -> u8
         fill_from(table, 0, 0);
         return file.outcome;
     }
-    pruning::build_table(file.set, reach, table)
+    builder::build_table(file.set, reach, table)
 }
 
 // Checks a table, whoever made it.
@@ -48,5 +48,5 @@ pub fn check_table(text: &[u8], reach: usize, table: &[u8]) -> u8
     if refusal != 0 {
         return refusal;
     }
-    pruning::check_table(file.set, reach, table)
+    checker::check_table(file.set, reach, table)
 }
