@@ -1,4 +1,5 @@
-// The entries of a rule's lines, each read at a place of the text and judged for its limit and its place. A set has at most 16 positions; more are taken as 16.
+// The entries of a rule's lines, each read at a place of the text and judged for its limit and its place.
+// A set has at most 16 positions; more are taken as 16.
 use bounded::at_most;
 use items::number_within;
 use placement::condition_placed;
@@ -8,8 +9,8 @@ ghost use mathlib.Core.Path.{_≡_};
 ghost use Prim.Native.Nat.{min};
 ghost use lib.ListN.{drop, set};
 ghost use Rattle.files_spec.specs.Reading.{variable, constant, entry};
-ghost use Rattle.reader_laws.specs.EntryAt.{conditionEntry, effectEntry};
 ghost use Rattle.reader_laws.specs.Found.{found};
+ghost use Rattle.reader_laws.specs.Parts.{conditionEntry, effectEntry};
 
 // A variable: the number of one of the positions, after the letter.
 fn variable(text: &[u8], at: usize, positions: u8, ending: u8) -> Found

@@ -1,4 +1,4 @@
-// The lines of a rule file that are no rule's own, each read at a place of the text: a key with one number, and the sizes.
+// Lines of a rule file, each read at a place of the text: a line with a key and one number, and the line of the sizes.
 use bounded::at_most;
 use items::number_within;
 use items::word;
@@ -8,14 +8,14 @@ use separators::ending;
 ghost use mathlib.Core.Path.{_≡_};
 ghost use Prim.Native.Nat.{min};
 ghost use lib.ListN.{drop};
-ghost use Rattle.files_spec.specs.Text.{lineFeed};
-ghost use Rattle.files_spec.specs.Reading.{andRead, literal, numberWithin, sizeItem, listLine};
+ghost use Rattle.files_spec.specs.Reading.{sizeItem, listLine};
 ghost use Rattle.reader_laws.specs.Found.{found};
+ghost use Rattle.reader_laws.specs.Parts.{keyedNumber};
 
 // A line with a key and one number.
 pub fn number_line(text: &[u8], at: usize, key: &[u8], least: u8, most: u8) -> Found
     ensures { λ r. ⌜
-        andRead (literal (now (key .entry)) (drop at (now (text .entry)))) (λ _ rest. numberWithin least most lineFeed rest)
+        keyedNumber (now (key .entry)) least most (drop at (now (text .entry)))
         ≡ found (r .outcome) (r .value) (r .next) (now (text .entry)) ⌝ }
 {
     let start = word(text, at, key);

@@ -1,4 +1,5 @@
--- An entry of a line is read, a constant as a number below its size, and then judged for its place: in an `if` line by the array with the entry stored in it, in a `then` line by the condition.
+-- An entry of a line is read, a constant as a number below its size, and then judged for its place:
+-- in an `if` line by the array with the entry stored in it, in a `then` line by the condition.
 -- Assumes nothing.
 use mathlib.Core.Path.{_≡_, refl, sym, ap, _∙_}
 use mathlib.Core.Logic.{_≢_}
@@ -16,9 +17,18 @@ use Rattle.theory_spec.proofs.TestLaws.{within-iff}
 use Rattle.model_spec.specs.States.{isConstant, width}
 use Rattle.model_spec.specs.Validity.{variablePlace, conditionPlaced, effectPlaced}
 use Rattle.model_spec.proofs.LoopLaws.{failed, passed}
-use Rattle.files_spec.specs.Reading.{Parsed, refusedUnless, number, numberWithin, constant, entry, conditionItem, effectItem}
+use Rattle.files_spec.specs.Reading.{
+  Parsed,
+  refusedUnless,
+  number,
+  numberWithin,
+  constant,
+  entry,
+  conditionItem,
+  effectItem,
+}
 use Rattle.reader_laws.specs.Found.{found}
-use Rattle.reader_laws.specs.EntryAt.{conditionEntry, effectEntry}
+use Rattle.reader_laws.specs.Parts.{conditionEntry, effectEntry}
 use Rattle.reader_laws.proofs.FoundLaws.{found-refused, found-parsed, unless-failed, unless-passed, unless-refused}
 
 -- a place up to i is looked at in the first i + 1 places
@@ -47,10 +57,13 @@ module _ (positions : ℕ) (sizes : List ℕ) where
       (ap (λ test. refusedUnless 3 test (entry positions sizes i ending text)) (λ k e. placed-front before i e h k))
 
 -- an entry of a `then` line after i others
-pub effect-at : (positions : ℕ) (sizes condition before : List ℕ) {i : ℕ} (ending : ℕ) (text : List ℕ) → positions ≤ 16 → length before ≡ i
+pub effect-at : (positions : ℕ) (sizes condition before : List ℕ) {i : ℕ} (ending : ℕ) (text : List ℕ)
+    → positions ≤ 16 → length before ≡ i
     → effectItem positions sizes condition before ending text ≡ effectEntry positions sizes condition i ending text
 unfolding effectItem effectEntry
-effect-at positions sizes condition before ending text p h = let m : min positions 16 ≡ positions = omega arith in rw (h, m)
+effect-at positions sizes condition before ending text p h =
+    let m : min positions 16 ≡ positions = omega arith in
+    rw (h, m)
 
 -- what is judged for its place, where reading gave this
 module _ {read : Parsed ℕ} (test : ℕ → Bool) {o : ℕ} (v n : ℕ) (text : List ℕ) (e : read ≡ found o v n text) where
@@ -59,22 +72,25 @@ module _ {read : Parsed ℕ} (test : ℕ → Bool) {o : ℕ} (v n : ℕ) (text :
   entry-refused w m h = unless-refused v n text 3 test e h ∙ sym (found-refused w m text h)
 
   -- it is not in place, by the result of the test
-  pub entry-misplaced : (w m : ℕ) {r : Bool} → o ≡ 0 → r ≡ test v → not r ≡ true → refusedUnless 3 test read ≡ found 3 w m text
-  entry-misplaced w m h t f = unless-failed v n text 3 test e h (failed t f) ∙ sym (found-refused w m text (λ k. omega arith))
+  pub entry-misplaced : (w m : ℕ) {r : Bool} → o ≡ 0 → r ≡ test v → not r ≡ true
+      → refusedUnless 3 test read ≡ found 3 w m text
+  entry-misplaced w m h t f =
+      unless-failed v n text 3 test e h (failed t f) ∙ sym (found-refused w m text (λ k. omega arith))
 
   -- it is
   pub entry-placed : {r : Bool} → o ≡ 0 → r ≡ test v → not r ≡ false → refusedUnless 3 test read ≡ found o v n text
   entry-placed h t f = unless-passed v n text 3 test e h (passed t f) ∙ sym (found-parsed v n text h)
 
 -- a constant below a size is a number from 0 to the one before it
-pub constant-below : (size ending : ℕ) (text : List ℕ) → 0 < size → constant size ending text ≡ numberWithin 0 (size - 1) ending text
+pub constant-below : (size ending : ℕ) (text : List ℕ) → 0 < size
+    → constant size ending text ≡ numberWithin 0 (size - 1) ending text
 unfolding constant numberWithin
 constant-below size ending text h =
     ap (λ test. refusedUnless 2 test (number ending text)) (λ k n. same-test (ltb n size) (within 0 (size - 1) n)
     (λ e. within-iff 0 (size - 1) n .1 (omega arith, omega (arith, ltb-true n size e)))
     (λ e. lt-ltb n size (omega (arith, within-iff 0 (size - 1) n .0 e .1))) k)
 
--- no number is below 0, and none is at least 1 and at most 0
+-- no number is below 0, as none is from 1 to 0
 pub constant-none : (ending : ℕ) (text : List ℕ) → constant 0 ending text ≡ numberWithin 1 0 ending text
 unfolding constant numberWithin
 constant-none ending text =

@@ -85,7 +85,8 @@ fn effect_line(
 ) -> FoundLine
     requires { ⌜ positions ≤ 16 ⌝ }
     ensures { λ r. ⌜
-        listLine "then=" (effectItem positions (now (sizes .entry)) (now (condition .entry))) positions (drop at (now (text .entry)))
+        listLine "then=" (effectItem positions (now (sizes .entry)) (now (condition .entry))) positions
+        (drop at (now (text .entry)))
         ≡ found (r .outcome) (r .entries) (r .next) (now (text .entry)) ⌝ }
 {
     let key = word(text, at, b"then=");

@@ -5,7 +5,7 @@ use Prim.Native.Nat.{ℕ}
 use lib.ListN.{set}
 use borrow.Author.Needs.{needs}
 use Rattle.model_spec.specs.Validity.{conditionPlaced}
-use Rattle.reader_laws.specs.EntryAt.{conditionEntry}
+use Rattle.reader_laws.specs.Parts.{conditionEntry}
 use Rattle.reader_laws.proofs.PlacementLaws.{entry-refused, entry-misplaced, entry-placed}
 use Rattle.entries.proofs.condition_item.Statement.{statement}
 use Rattle.entries.proofs.condition_item.Tie as tie
@@ -15,7 +15,9 @@ entry-requires c κs = search needs
 
 -- the entry is judged in the array that has it
 abbrev placed : tie.After-entry → ℕ → Bool
-placed e v = let a = e .before .before .args in conditionPlaced (a .positions) (a .sizes .now) (set (a .before) (a .i) v) (a .i) v
+placed e v =
+    let a = e .before .before .args in
+    conditionPlaced (a .positions) (a .sizes .now) (set (a .before) (a .i) v) (a .i) v
 
 returns : tie.Need-returns
 unfolding conditionEntry

@@ -4,7 +4,7 @@ use mathlib.Core.Bool.{Bool}
 use Prim.Native.Nat.{ℕ}
 use borrow.Author.Needs.{needs}
 use Rattle.model_spec.specs.Validity.{effectPlaced}
-use Rattle.reader_laws.specs.EntryAt.{effectEntry}
+use Rattle.reader_laws.specs.Parts.{effectEntry}
 use Rattle.reader_laws.proofs.PlacementLaws.{entry-refused, entry-misplaced, entry-placed}
 use Rattle.entries.proofs.effect_item.Statement.{statement}
 use Rattle.entries.proofs.effect_item.Tie as tie
@@ -30,14 +30,16 @@ unfolding effectEntry
 returns-2 c =
     let branch = c .before .before in
     let e = branch .before in
-    entry-misplaced (placed e) _ _ (e .before .before .args .text .now) (e .entry .ensures) _ _ (branch .if1 .left) (c .before .effect-placed .ensures) (c .if2 .taken)
+    entry-misplaced (placed e) _ _ (e .before .before .args .text .now) (e .entry .ensures) _ _ (branch .if1 .left)
+    (c .before .effect-placed .ensures) (c .if2 .taken)
 
 returns-3 : tie.Need-returns-3
 unfolding effectEntry
 returns-3 c =
     let branch = c .before .before in
     let e = branch .before in
-    entry-placed (placed e) _ _ (e .before .before .args .text .now) (e .entry .ensures) (branch .if1 .left) (c .before .effect-placed .ensures) (c .if2 .left)
+    entry-placed (placed e) _ _ (e .before .before .args .text .now) (e .entry .ensures) (branch .if1 .left)
+    (c .before .effect-placed .ensures) (c .if2 .left)
 
 pub effect-item-spec : {M : Type 1} → statement M
 effect-item-spec =

@@ -1,12 +1,14 @@
--- `file_lines::file_lines` meets its contract: line by line, a refusal passes on and a value is gone on with. The limits of the lines give what the calls require.
+-- `file_lines::file_lines` meets its contract: line by line, a refusal passes on and a value is gone on with.
+-- The limits of the lines give what the calls require.
 -- Assumes nothing.
 use mathlib.Core.Path.{_≡_, _∙_}
-use Prim.Native.Nat.{min}
+use Prim.Native.Nat.{_≤_, min}
 use native.Mathlib.Omega.{arith}
 use lib.ListN.{drop}
 use borrow.Author.Needs.{needs}
 use Rattle.files_spec.specs.Reading.{numberLine, sizeItem, listLine, fileLines}
 use Rattle.reader_laws.specs.Found.{found}
+use Rattle.reader_laws.specs.Parts.{keyedNumber}
 use Rattle.reader_laws.proofs.FoundLaws.{found-parsed, parsed-found, then-refused, then-parsed}
 use Rattle.files_spec.proofs.LineLaws.{number-line-read}
 use Rattle.file_lines.proofs.file_lines.Statement.{statement}
@@ -22,7 +24,7 @@ no-set-requires : tie.Need-no-set-requires
 no-set-requires c κs = search needs
 
 returns : tie.Need-returns
-unfolding fileLines numberLine
+unfolding fileLines numberLine keyedNumber
 returns c =
     rw (c .no-set .ensures)
     (then-refused _ _ _ _ _ _ (c .before .before .number-line .ensures) (c .before .if1 .taken))
@@ -30,23 +32,29 @@ returns c =
 sizes-line-requires : tie.Need-sizes-line-requires
 sizes-line-requires c κs = search needs
 
--- there are at most sixteen positions, so the line of the sizes is read as it is
+-- the positions are at most sixteen
+positions-limit : (c : tie.Else1) → c .before .number-line .result .value ≤ 16
+unfolding numberLine keyedNumber
+positions-limit c =
+    number-line-read "positions=" 1 16 _ _ _ (c .before .number-line .ensures ∙ found-parsed _ _ _ (c .if1 .left)) .1
+
+-- so the line of the sizes is read as it is
 sizes-read : (c : tie.After-sizes-line)
-    → let positions = c .before .before .number-line .result .value in
-    listLine "sizes=" sizeItem positions (drop (c .before .before .number-line .result .next) (c .before .before .before .before .before .args .text .now))
-    ≡ found (c .sizes-line .result .outcome) (c .sizes-line .result .entries) (c .sizes-line .result .next) (c .before .before .before .before .before .args .text .now)
-unfolding numberLine
+    → let positions = c .before .before .number-line .result in
+    let text = c .before .before .before .before .before .args .text .now in
+    let r = c .sizes-line .result in
+    listLine "sizes=" sizeItem (positions .value) (drop (positions .next) text)
+    ≡ found (r .outcome) (r .entries) (r .next) text
 sizes-read c =
-    let positions = c .before .before .number-line in
-    let limit = number-line-read "positions=" 1 16 _ _ _ (positions .ensures ∙ found-parsed _ _ _ (c .before .if1 .left)) .1 in
-    let m : min (positions .result .value) 16 ≡ positions .result .value = omega (arith, limit) in
+    let positions = c .before .before .number-line .result .value in
+    let m : min positions 16 ≡ positions = omega (arith, positions-limit (c .before)) in
     rw m at (c .sizes-line .ensures)
 
 no-set-requires-2 : tie.Need-no-set-requires-2
 no-set-requires-2 c κs = search needs
 
 returns-2 : tie.Need-returns-2
-unfolding fileLines numberLine
+unfolding fileLines numberLine keyedNumber
 returns-2 c =
     let sizes = c .before .before in
     let positions = sizes .before .before in
@@ -64,7 +72,7 @@ no-set-requires-3 : tie.Need-no-set-requires-3
 no-set-requires-3 c κs = search needs
 
 returns-3 : tie.Need-returns-3
-unfolding fileLines numberLine
+unfolding fileLines numberLine keyedNumber
 returns-3 c =
     let count = c .before .before in
     let sizes = count .before .before .before in
@@ -75,12 +83,11 @@ returns-3 c =
     ∙ then-refused _ _ _ _ _ _ (count .number-line2 .ensures) (c .before .if3 .taken))
 
 rule-list-requires : tie.Need-rule-list-requires
-unfolding numberLine
+unfolding numberLine keyedNumber
 rule-list-requires c κs =
     let count = c .before .before .before in
-    let sizes = count .before .before .before in
-    let positions = sizes .before .before in (
-      number-line-read "positions=" 1 16 _ _ _ (positions .number-line .ensures ∙ found-parsed _ _ _ (sizes .before .if1 .left)) .1,
+    let sizes = count .before .before .before in (
+      positions-limit (sizes .before),
       number-line-read "rules=" 1 31 _ _ _ (count .number-line2 .ensures ∙ found-parsed _ _ _ (c .before .before .if3 .left)) .1,
     )
 
@@ -88,7 +95,7 @@ no-set-requires-4 : tie.Need-no-set-requires-4
 no-set-requires-4 c κs = search needs
 
 returns-4 : tie.Need-returns-4
-unfolding fileLines numberLine
+unfolding fileLines numberLine keyedNumber
 returns-4 c =
     let rules = c .before .before in
     let count = rules .before .before .before .before in
@@ -101,7 +108,7 @@ returns-4 c =
     ∙ then-refused _ _ _ _ _ _ (rules .rule-list .ensures) (c .before .if4 .taken))
 
 returns-5 : tie.Need-returns-5
-unfolding fileLines numberLine
+unfolding fileLines numberLine keyedNumber
 returns-5 c =
     let rules = c .before .before in
     let count = rules .before .before .before .before in

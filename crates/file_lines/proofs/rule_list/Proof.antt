@@ -1,4 +1,5 @@
--- `file_lines::rule_list` meets its contract. The invariant: the first k rules stand in the array, and what is left of the text decides the list.
+-- `file_lines::rule_list` meets its contract.
+-- The invariant: the first k rules stand in the array, and what is left of the text decides the list.
 -- Assumes nothing.
 use mathlib.Core.Path.{_≡_, refl}
 use Prim.Native.Nat.{_-_, min}
@@ -13,7 +14,8 @@ use Rattle.file_lines.proofs.rule_list.Tie as tie
 
 abbrev Inv-loop : tie.InvT-loop
 Inv-loop text at positions sizes count rules₀ next₀ k₀ total rules next k =
-    SoFar (rulesAfter positions sizes) 31 blankRule total text (ruleList positions sizes count (drop at text)) rules next k
+    SoFar (rulesAfter positions sizes) 31 blankRule total text (ruleList positions sizes count (drop at text))
+    rules next k
 
 abbrev μ-loop : tie.MeasureT-loop
 μ-loop text at positions sizes count rules₀ next₀ k₀ total rules next k = total - k
@@ -25,7 +27,8 @@ loop-holds : tie.Need-loop-holds Inv-loop μ-loop
 unfolding ruleList
 loop-holds c =
     let a = c .before .before .args in
-    rw (c .blank-rule .ensures) (fill-start (rules-list (a .positions) (a .sizes .now)) (a .at) (c .before .before .pre .1) refl)
+    rw (c .blank-rule .ensures)
+    (fill-start (rules-list (a .positions) (a .sizes .now)) (a .at) (c .before .before .pre .1) refl)
 
 rule-lines-requires : tie.Need-rule-lines-requires Inv-loop μ-loop
 rule-lines-requires c κs = search needs

@@ -1,4 +1,5 @@
--- `items::decimal_at` meets its contract. The invariant: the digits left, read on from n, give the whole, and n is at most the largest number of i digits.
+-- `items::decimal_at` meets its contract.
+-- The invariant: the digits left, read on from n, give the whole, and n is at most the largest number of i digits.
 -- Assumes nothing.
 use Prim.Native.Nat.{ℕ, zero, suc, _+_, _*_, _-_, _≤_, _<_}
 use mathlib.Core.Path.{_≡_, sym, ap, _∙_}

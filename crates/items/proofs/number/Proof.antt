@@ -1,4 +1,5 @@
--- `items::number` meets its contract. The digits are counted and judged, then the byte after them, then their number is made.
+-- `items::number` meets its contract.
+-- The digits are counted and judged, then the byte after them, then their number is made.
 -- Assumes nothing.
 use Prim.Native.Nat.{ℕ, _+_, _≤_, _<_}
 use mathlib.Core.Path.{_≡_, _∙_}

@@ -1,4 +1,5 @@
--- `lines::sizes_line` meets its contract. The invariant: the first i sizes stand in the array, and what is left of the text decides the line.
+-- `lines::sizes_line` meets its contract.
+-- The invariant: the first i sizes stand in the array, and what is left of the text decides the line.
 -- Assumes nothing.
 use mathlib.Core.Path.{sym}
 use Prim.Native.Nat.{_-_, min}
@@ -13,7 +14,8 @@ use Rattle.lines.proofs.sizes_line.Tie as tie
 
 abbrev Inv-loop : tie.InvT-loop
 Inv-loop text at positions count outcome entries₀ next₀ i₀ entries next i =
-    SoFar (itemsAfter sizeItem) 16 0 count text (listLine "sizes=" sizeItem (min positions 16) (drop at text)) entries next i
+    SoFar (itemsAfter sizeItem) 16 0 count text (listLine "sizes=" sizeItem (min positions 16) (drop at text))
+    entries next i
 
 abbrev μ-loop : tie.MeasureT-loop
 μ-loop text at positions count outcome entries₀ next₀ i₀ entries next i = count - i
@@ -32,7 +34,7 @@ word-requires c κs = search needs
 
 returns : tie.Need-returns Inv-loop μ-loop
 unfolding listLine
-returns c = rw (← c .before .before .before .at-most .ensures) (then-refused _ _ _ _ _ _ (c .before .word .ensures) (c .if1 .taken))
+returns c = then-refused _ _ _ _ _ _ (c .before .word .ensures) (c .if1 .taken)
 
 loop-holds : tie.Need-loop-holds Inv-loop μ-loop
 unfolding listLine

@@ -1,4 +1,5 @@
--- `rule_lines::condition_line` meets its contract. The invariant: the first i entries stand in the array, and what is left of the text decides the line.
+-- `rule_lines::condition_line` meets its contract.
+-- The invariant: the first i entries stand in the array, and what is left of the text decides the line.
 -- Assumes nothing.
 use mathlib.Core.Path.{sym, _∙_}
 use Prim.Native.Nat.{_-_}
@@ -13,7 +14,8 @@ use Rattle.rule_lines.proofs.condition_line.Tie as tie
 
 abbrev Inv-loop : tie.InvT-loop
 Inv-loop text at positions sizes outcome entries₀ next₀ count i₀ entries next i =
-    SoFar (itemsAfter (conditionItem positions sizes)) 16 0 count text (listLine "if=" (conditionItem positions sizes) positions (drop at text)) entries next i
+    SoFar (itemsAfter (conditionItem positions sizes)) 16 0 count text
+    (listLine "if=" (conditionItem positions sizes) positions (drop at text)) entries next i
 
 abbrev μ-loop : tie.MeasureT-loop
 μ-loop text at positions sizes outcome entries₀ next₀ count i₀ entries next i = count - i
@@ -32,7 +34,8 @@ loop-holds : tie.Need-loop-holds Inv-loop μ-loop
 unfolding listLine
 loop-holds c =
     let a = c .before .before .before .before .args in
-    fill-start (items-list (conditionItem (a .positions) (a .sizes .now))) (c .before .word .result .next) (c .before .before .before .before .pre)
+    fill-start (items-list (conditionItem (a .positions) (a .sizes .now))) (c .before .word .result .next)
+    (c .before .before .before .before .pre)
     (sym (then-parsed _ _ _ _ (c .before .word .ensures) (c .if1 .left)))
 
 sub-ending : tie.Need-sub-ending Inv-loop μ-loop
@@ -52,7 +55,8 @@ returns-2 c =
     let t = c .before .before .before .before in
     let start = t .before .before .before .before .before in
     let a = start .args in
-    fill-stop (items-list (conditionItem (a .positions) (a .sizes .now))) (t .loop .inv) _ _ _ _ (c .before .before .before .loop-test .taken)
+    fill-stop (items-list (conditionItem (a .positions) (a .sizes .now))) (t .loop .inv) _ _ _ _
+    (c .before .before .before .loop-test .taken)
     (condition-at (a .positions) (a .sizes .now) (t .loop .entries) (t .loop .i) _ _ (start .pre) (search needs)
     ∙ rw (c .before .before .ending .ensures) at (c .before .condition-item .ensures)) (c .if2 .taken)
 
@@ -70,7 +74,8 @@ loop-again c =
     let t = c .before .before .before .before in
     let start = t .before .before .before .before .before in
     let a = start .args in
-    fill-go (items-list (conditionItem (a .positions) (a .sizes .now))) (t .loop .inv) _ _ (c .before .before .before .loop-test .taken)
+    fill-go (items-list (conditionItem (a .positions) (a .sizes .now))) (t .loop .inv) _ _
+    (c .before .before .before .loop-test .taken)
     (condition-at (a .positions) (a .sizes .now) (t .loop .entries) (t .loop .i) _ _ (start .pre) (search needs)
     ∙ rw (c .before .before .ending .ensures) at (c .before .condition-item .ensures)) (c .if2 .left)
 

@@ -1,4 +1,5 @@
--- `rule_lines::effect_line` meets its contract. The invariant: the first i entries stand in the array, and what is left of the text decides the line.
+-- `rule_lines::effect_line` meets its contract.
+-- The invariant: the first i entries stand in the array, and what is left of the text decides the line.
 -- Assumes nothing.
 use mathlib.Core.Path.{sym, _∙_}
 use Prim.Native.Nat.{_-_}
@@ -14,7 +15,8 @@ use Rattle.rule_lines.proofs.effect_line.Tie as tie
 
 abbrev Inv-loop : tie.InvT-loop
 Inv-loop text at positions sizes condition outcome entries₀ next₀ count i₀ entries next i =
-    SoFar (itemsAfter (effectItem positions sizes condition)) 16 0 count text (listLine "then=" (effectItem positions sizes condition) positions (drop at text)) entries next i
+    SoFar (itemsAfter (effectItem positions sizes condition)) 16 0 count text
+    (listLine "then=" (effectItem positions sizes condition) positions (drop at text)) entries next i
 
 abbrev μ-loop : tie.MeasureT-loop
 μ-loop text at positions sizes condition outcome entries₀ next₀ count i₀ entries next i = count - i
@@ -33,7 +35,8 @@ loop-holds : tie.Need-loop-holds Inv-loop μ-loop
 unfolding listLine
 loop-holds c =
     let a = c .before .before .before .before .args in
-    fill-start (items-list (effectItem (a .positions) (a .sizes .now) (a .condition .now))) (c .before .word .result .next) (c .before .before .before .before .pre)
+    fill-start (items-list (effectItem (a .positions) (a .sizes .now) (a .condition .now))) (c .before .word .result .next)
+    (c .before .before .before .before .pre)
     (sym (then-parsed _ _ _ _ (c .before .word .ensures) (c .if1 .left)))
 
 sub-ending : tie.Need-sub-ending Inv-loop μ-loop
@@ -53,8 +56,10 @@ returns-2 c =
     let t = c .before .before .before .before in
     let start = t .before .before .before .before .before in
     let a = start .args in
-    fill-stop (items-list (effectItem (a .positions) (a .sizes .now) (a .condition .now))) (t .loop .inv) _ _ _ _ (c .before .before .before .loop-test .taken)
-    (effect-at (a .positions) (a .sizes .now) (a .condition .now) (take (t .loop .i) (t .loop .entries)) _ _ (start .pre) (length-take-le (t .loop .i) (t .loop .entries) (search needs))
+    fill-stop (items-list (effectItem (a .positions) (a .sizes .now) (a .condition .now))) (t .loop .inv) _ _ _ _
+    (c .before .before .before .loop-test .taken)
+    (effect-at (a .positions) (a .sizes .now) (a .condition .now) (take (t .loop .i) (t .loop .entries)) _ _ (start .pre)
+    (length-take-le (t .loop .i) (t .loop .entries) (search needs))
     ∙ rw (c .before .before .ending .ensures) at (c .before .effect-item .ensures)) (c .if2 .taken)
 
 array-write-entries : tie.Need-array-write-entries Inv-loop μ-loop
@@ -71,8 +76,10 @@ loop-again c =
     let t = c .before .before .before .before in
     let start = t .before .before .before .before .before in
     let a = start .args in
-    fill-go (items-list (effectItem (a .positions) (a .sizes .now) (a .condition .now))) (t .loop .inv) _ _ (c .before .before .before .loop-test .taken)
-    (effect-at (a .positions) (a .sizes .now) (a .condition .now) (take (t .loop .i) (t .loop .entries)) _ _ (start .pre) (length-take-le (t .loop .i) (t .loop .entries) (search needs))
+    fill-go (items-list (effectItem (a .positions) (a .sizes .now) (a .condition .now))) (t .loop .inv) _ _
+    (c .before .before .before .loop-test .taken)
+    (effect-at (a .positions) (a .sizes .now) (a .condition .now) (take (t .loop .i) (t .loop .entries)) _ _ (start .pre)
+    (length-take-le (t .loop .i) (t .loop .entries) (search needs))
     ∙ rw (c .before .before .ending .ensures) at (c .before .effect-item .ensures)) (c .if2 .left)
 
 returns-3 : tie.Need-returns-3 Inv-loop μ-loop

@@ -3,6 +3,7 @@
 use mathlib.Core.Path.{_∙_}
 use borrow.Author.Needs.{needs}
 use Rattle.files_spec.specs.Reading.{numberLine, ruleLines}
+use Rattle.reader_laws.specs.Parts.{keyedNumber}
 use Rattle.reader_laws.proofs.FoundLaws.{parsed-found, then-refused, then-parsed}
 use Rattle.rule_lines.proofs.rule_lines.Statement.{statement}
 use Rattle.rule_lines.proofs.rule_lines.Tie as tie
@@ -20,8 +21,10 @@ no-rule-requires : tie.Need-no-rule-requires
 no-rule-requires c κs = search needs
 
 returns : tie.Need-returns
-unfolding ruleLines numberLine
-returns c = rw (c .no-rule .ensures) (then-refused _ _ _ _ _ _ (c .before .before .number-line .ensures) (c .before .if1 .taken))
+unfolding ruleLines numberLine keyedNumber
+returns c =
+    rw (c .no-rule .ensures)
+    (then-refused _ _ _ _ _ _ (c .before .before .number-line .ensures) (c .before .if1 .taken))
 
 condition-line-requires : tie.Need-condition-line-requires
 condition-line-requires c κs = search needs
@@ -30,7 +33,7 @@ no-rule-requires-2 : tie.Need-no-rule-requires-2
 no-rule-requires-2 c κs = search needs
 
 returns-2 : tie.Need-returns-2
-unfolding ruleLines numberLine
+unfolding ruleLines numberLine keyedNumber
 returns-2 c =
     let condition = c .before .before in
     let cost = condition .before .before in
@@ -45,7 +48,7 @@ no-rule-requires-3 : tie.Need-no-rule-requires-3
 no-rule-requires-3 c κs = search needs
 
 returns-3 : tie.Need-returns-3
-unfolding ruleLines numberLine
+unfolding ruleLines numberLine keyedNumber
 returns-3 c =
     let effect = c .before .before in
     let condition = effect .before .before .before .before in
@@ -56,7 +59,7 @@ returns-3 c =
     ∙ then-refused _ _ _ _ _ _ (effect .effect-line .ensures) (c .before .if3 .taken))
 
 returns-4 : tie.Need-returns-4
-unfolding ruleLines numberLine
+unfolding ruleLines numberLine keyedNumber
 returns-4 c =
     let effect = c .before .before in
     let condition = effect .before .before .before .before in
