@@ -1,40 +1,24 @@
 // The listing of a rule file's pruning table.
-mod marks;
-mod text;
-
 use buffers::fill_from;
 use builder::build_table;
-use marks::count_marks;
-use marks::put_marks;
 use model_spec::RuleSet;
-use text::put_number_line;
+use output::put_number_line;
+use table_output::put_table;
+use tables::sequence_count;
 ghost use mathlib.Core.Path.{_≡_};
 ghost use mathlib.Core.Bool.{cond};
 ghost use mathlib.Core.List.{[], _∷_};
-ghost use Prim.Native.Nat.{_*_, _≤_};
+ghost use Prim.Native.Nat.{_*_};
 ghost use lib.Dec.{eqb};
 ghost use lib.ListN.{length};
 ghost use Rattle.model_spec.specs.Validity.{Valid};
 ghost use Rattle.files_spec.specs.Text.{numeral, line};
 ghost use Rattle.output_laws.specs.Overlay.{Laid};
-ghost use Rattle.tables_spec.specs.Table.{sequenceCount, tableEntries};
+ghost use Rattle.tables_spec.specs.Table.{tableEntries};
 ghost use Rattle.report_spec.specs.Listing.{listingOf};
-ghost use Rattle.report_spec.specs.Marks.{MarksEarlier, tableText};
 ghost use Rattle.report_spec.specs.Report.{reportLength, reported, ReportMeaning};
 
-// The listing of a table for so many rules, from the start of the text on.
-fn put_table(text: &mut [u8], count: u8, table: &[u8]) -> usize
-    requires { ⌜ (1 ≤ count) × (count ≤ 31) × (length (now table) ≡ 2 * sequenceCount count 2) × MarksEarlier (now table) × (length (tableText count (now table)) ≤ 65535) ⌝ }
-    ensures { λ r. ⌜ Laid 0 (tableText count (now (table .entry))) (now (text .entry)) r (now (text .exit)) ⌝ }
-{
-    let number = count_marks(table);
-    let rules = put_number_line(text, 0, b"reach=", 2);
-    let marks = put_number_line(text, rules, b"rules=", count as u16);
-    let first = put_number_line(text, marks, b"marks=", number);
-    put_marks(text, first, count, table)
-}
-
-// The listing of a set, with its table for reach 2 built where there is room for it.
+// Lays the listing of a set, with its table for reach 2 built where there is room for it.
 fn put_built(text: &mut [u8], set: RuleSet, table: &mut [u8]) -> usize
     requires { ⌜ Valid set × (length (now table) ≡ 2 * tableEntries set 2) ⌝ }
     ensures { λ r. ⌜ Laid 0 (listingOf set) (now (text .entry)) r (now (text .exit)) ⌝ }
@@ -43,31 +27,38 @@ fn put_built(text: &mut [u8], set: RuleSet, table: &mut [u8]) -> usize
     put_table(text, set.count, table)
 }
 
-// The listing of a set. At most 993 sequences have at most two of 31 rules, so 1,986 bytes hold every table.
+// Lays the listing of a set. At most 993 sequences have at most two of 31 rules, so 1,986 bytes hold every table.
 fn put_set(text: &mut [u8], set: RuleSet) -> usize
     requires { ⌜ Valid set ⌝ }
     ensures { λ r. ⌜ Laid 0 (listingOf set) (now (text .entry)) r (now (text .exit)) ⌝ }
 {
-    let many = set.count as usize;
-    let size = 2 * (1 + many + many * many);
+    let size = 2 * sequence_count(set.count, 2);
     let mut table = [0u8; 1986];
     put_built(text, set, &mut table[..size])
 }
 
-// The listing of what reading a file gave: a refused one's number alone.
+// Lays the listing of what reading a file gave: a refused one's number alone.
 fn put_listing(text: &mut [u8], outcome: u8, set: RuleSet) -> usize
     requires { ⌜ (outcome ≡ 0 → Valid set) ⌝ }
-    ensures { λ r. ⌜ Laid 0 (cond (eqb outcome 0) (listingOf set) (line "refused=" (numeral outcome ∷ []))) (now (text .entry)) r (now (text .exit)) ⌝ }
+    ensures { λ r. ⌜
+        Laid 0 (cond (eqb outcome 0) (listingOf set) (line "refused=" (numeral outcome ∷ [])))
+        (now (text .entry)) r (now (text .exit)) ⌝ }
 {
     if outcome != 0 {
-        return put_number_line(text, 0, b"refused=", outcome as u16);
+        return put_number_line(text, 0, b"refused=", outcome as usize);
     }
     put_set(text, set)
 }
 
-// Lists a rule file at reach 2 into the buffer, and zeros after it: the listing's length; 0 and zeros alone where the buffer is shorter.
+// Lists a rule file at reach 2 into the buffer, and zeros after it: the listing's length; 0 and zeros alone where the
+// buffer is shorter.
 pub fn report(text: &[u8], out: &mut [u8]) -> usize
-    ensures { λ r. ⌜ (r ≡ reportLength (now (text .entry)) (length (now (out .entry)))) × (now (out .exit) ≡ reported (now (text .entry)) (length (now (out .entry)))) × ReportMeaning (now (text .entry)) (length (now (out .entry))) r (now (out .exit)) ⌝ }
+    ensures { λ r. ⌜
+        (let file = now (text .entry) in
+        let room = length (now (out .entry)) in
+        (r ≡ reportLength file room)
+        × (now (out .exit) ≡ reported file room)
+        × ReportMeaning file room r (now (out .exit))) ⌝ }
 {
     let reading = reader::read(text);
     let end = put_listing(out, reading.outcome, reading.set);

@@ -5,5 +5,4 @@ pub mod SequenceTextLaws
 pub mod MarkLaws
 pub mod LengthLaws
 pub mod ReportLaws
-pub mod OverlayLaws
 pub mod MarkLoopLaws

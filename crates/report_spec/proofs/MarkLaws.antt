@@ -17,9 +17,10 @@ use Rattle.model_spec.specs.declared.RuleSet.{RuleSet}
 use Rattle.files_spec.specs.Text.{line}
 use Rattle.tables_spec.specs.Table.{tableEntries, sequenceAt, kept, entryAt, builtEntry, builtTable, Prunable, LeastWitness}
 use Rattle.tables_spec.proofs.TableLaws.{sequence-index, built-entry, built-length, built-least, built-mark-iff}
+use Rattle.output_laws.proofs.OverlayLaws.{shown-number}
 use Rattle.report_spec.specs.Listing.{markedIndices, markLines, listingOf}
 use Rattle.report_spec.specs.Report.{Listed}
-use Rattle.report_spec.specs.Marks.{marks, tableMarks, MarksEarlier, markText, entryLines, marksText, tableText}
+use Rattle.report_spec.specs.Marks.{marks, tableMarks, markText, entryLines, marksText, tableText}
 use Rattle.report_spec.proofs.ListLaws.{keep-same, flat-keep, increase}
 use Rattle.report_spec.proofs.SequenceTextLaws.{text-at}
 
@@ -69,13 +70,6 @@ module _ (set : RuleSet) where
   entry-count : length (builtTable set 2) / 2 ≡ tableEntries set 2
   entry-count = omega (arith, built-length set 2)
 
-  -- each mark names a smaller index
-  pub built-earlier : MarksEarlier (builtTable set 2)
-  built-earlier i h m =
-      let l : i < tableEntries set 2 = omega (arith, built-length set 2) in
-      let e = built-entry set 2 i l in
-      subst (λ n. n < i) (sym e) (built-least set 2 i l (λ k. m (e ∙ k)) .0)
-
   -- the indices that the table marks
   table-marks : tableMarks (builtTable set 2) ≡ markedIndices set
   unfolding tableMarks markedIndices
@@ -84,31 +78,38 @@ module _ (set : RuleSet) where
       (keep-same (marks (builtTable set 2)) (λ i. not (eqb (builtEntry set 2 i) kept)) (numbersFrom 0 (tableEntries set 2))
       (λ i d. ap (λ n. not (eqb n kept)) (built-entry set 2 i (omega (arith, of-numbersFrom 0 (tableEntries set 2) d)))))
 
-  -- the lines of a mark
-  mark-lines : (i : ℕ) → i < tableEntries set 2 → builtEntry set 2 i ≢ kept → markText (set .count) i (builtEntry set 2 i) ≡ markLines set i
-  unfolding markText markLines line
-  mark-lines i h m = rw (text-at set i h, text-at set (builtEntry set 2 i) (omega (arith, built-least set 2 i h m .0)))
+  module _ (some : 1 ≤ set .count) where
+    -- the lines of a mark
+    mark-lines : (i : ℕ) → i < tableEntries set 2 → builtEntry set 2 i ≢ kept
+        → markText (set .count) i (builtEntry set 2 i) ≡ markLines set i
+    unfolding markText markLines line
+    mark-lines i h m =
+        rw (text-at set some i h, text-at set some (builtEntry set 2 i) (omega (arith, built-least set 2 i h m .0)))
 
-  -- the lines of an entry
-  entry-lines : (i : ℕ) → i < tableEntries set 2
-      → entryLines (set .count) i (entryAt (builtTable set 2) i) ≡ cond (not (eqb (builtEntry set 2 i) kept)) (markLines set i) []
-  unfolding entryLines
-  entry-lines i h = rw (built-entry set 2 i h) (go (eqb (builtEntry set 2 i) kept) refl)
-    where
-      go : (b : Bool) → eqb (builtEntry set 2 i) kept ≡ b → cond b [] (markText (set .count) i (builtEntry set 2 i)) ≡ cond (not b) (markLines set i) []
-      go true e = refl
-      go false e = mark-lines i h (eqb-false (builtEntry set 2 i) kept e)
+    -- the lines of an entry
+    entry-lines : (i : ℕ) → i < tableEntries set 2
+        → entryLines (set .count) i (entryAt (builtTable set 2) i)
+        ≡ cond (not (eqb (builtEntry set 2 i) kept)) (markLines set i) []
+    unfolding entryLines
+    entry-lines i h = rw (built-entry set 2 i h) (go (eqb (builtEntry set 2 i) kept) refl)
+      where
+        go : (b : Bool) → eqb (builtEntry set 2 i) kept ≡ b
+            → cond b [] (markText (set .count) i (builtEntry set 2 i)) ≡ cond (not b) (markLines set i) []
+        go true e = refl
+        go false e = mark-lines i h (eqb-false (builtEntry set 2 i) kept e)
 
-  -- the lines of all marks
-  marks-lines : marksText (set .count) (builtTable set 2) ≡ flat (markLines set) (markedIndices set)
-  unfolding marksText markedIndices
-  marks-lines =
-      rw entry-count
-      (flat-same (λ i. entryLines (set .count) i (entryAt (builtTable set 2) i)) (λ i. cond (not (eqb (builtEntry set 2 i) kept)) (markLines set i) []) (numbersFrom 0 (tableEntries set 2))
-      (λ i d. entry-lines i (omega (arith, of-numbersFrom 0 (tableEntries set 2) d)))
-      ∙ flat-keep (λ i. not (eqb (builtEntry set 2 i) kept)) (markLines set) (numbersFrom 0 (tableEntries set 2)))
+    -- the lines of all marks
+    marks-lines : marksText (set .count) (builtTable set 2) ≡ flat (markLines set) (markedIndices set)
+    unfolding marksText markedIndices
+    marks-lines =
+        rw entry-count
+        (flat-same (λ i. entryLines (set .count) i (entryAt (builtTable set 2) i))
+        (λ i. cond (not (eqb (builtEntry set 2 i) kept)) (markLines set i) [])
+        (numbersFrom 0 (tableEntries set 2))
+        (λ i d. entry-lines i (omega (arith, of-numbersFrom 0 (tableEntries set 2) d)))
+        ∙ flat-keep (λ i. not (eqb (builtEntry set 2 i) kept)) (markLines set) (numbersFrom 0 (tableEntries set 2)))
 
-  -- the listing
-  pub table-listing : tableText (set .count) (builtTable set 2) ≡ listingOf set
-  unfolding tableText listingOf
-  table-listing = rw (table-marks, marks-lines)
+    -- the listing, where the number of marks has at most three digits
+    pub table-listing : length (markedIndices set) ≤ 999 → tableText (set .count) (builtTable set 2) ≡ listingOf set
+    unfolding tableText listingOf
+    table-listing few = rw (table-marks, marks-lines, shown-number (length (markedIndices set)) few)

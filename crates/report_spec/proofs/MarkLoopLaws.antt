@@ -1,11 +1,11 @@
 -- The lines of an entry, and the turns of the loops over the entries of a table: those from place i on remain, for their number and for their lines.
 -- Assumes nothing.
-use mathlib.Core.Path.{_≡_, ap}
+use mathlib.Core.Path.{_≡_}
 use mathlib.Core.Logic.{_≢_}
 use mathlib.Core.List.{List, [], _∷_, _++_}
 use Prim.Native.Nat.{ℕ, _+_, _-_, _/_, _≤_, _<_}
 use native.Mathlib.Omega.{arith}
-use lib.ListN.{length, length-append}
+use lib.ListN.{length}
 use borrow.Author.Tests.{eq-eqb, ne-eqb}
 use Rattle.theory_spec.specs.Lists.{keep, flat, numbersFrom}
 use Rattle.model_spec.proofs.LoopLaws.{left-more, left-none}
@@ -21,15 +21,11 @@ module _ (m i entry : ℕ) where
   unfolding entryLines
   entry-kept e = rw (eq-eqb entry kept e)
 
-  module _ (h : entry ≢ kept) where
-    -- a mark has two
-    pub entry-marked : entryLines m i entry ≡ bytes "drop=" ++ sequenceText m i ++ (lineFeed ∷ []) ++ (bytes "for=" ++ sequenceText m entry ++ (lineFeed ∷ []))
-    unfolding entryLines markText
-    entry-marked = rw (ne-eqb entry kept h)
-
-    -- of these lengths
-    pub entry-length : length (entryLines m i entry) ≡ length (sequenceText m i ++ (lineFeed ∷ [])) + length (sequenceText m entry ++ (lineFeed ∷ [])) + 9
-    entry-length = omega (arith, simp length-append at (ap length entry-marked), length-append (sequenceText m i) (lineFeed ∷ []), length-append (sequenceText m entry) (lineFeed ∷ []))
+  -- a mark has two
+  pub entry-marked : entry ≢ kept → entryLines m i entry
+      ≡ bytes "drop=" ++ sequenceText m i ++ (lineFeed ∷ []) ++ (bytes "for=" ++ sequenceText m entry ++ (lineFeed ∷ []))
+  unfolding entryLines markText
+  entry-marked h = rw (ne-eqb entry kept h)
 
 -- ── All entries ──────────────────────────────────────────────────────────────────────────────────
 

@@ -1,13 +1,14 @@
--- A listing by the bytes of a table and the number of rules, as the functions lay it. No answer mentions it: the law `table-listing` says that of the built table it is the listing.
-use mathlib.Core.Logic.{_≢_}
+-- A listing by the bytes of a table and the number of rules, as the functions lay it, for any of both. No answer mentions
+-- it: the law `table-listing` says that of the built table it is the listing.
 use mathlib.Core.Bool.{Bool, not, cond}
 use mathlib.Core.List.{List, [], _∷_, _++_, map}
-use Prim.Native.Nat.{ℕ, _+_, _*_, _/_, _<_}
+use Prim.Native.Nat.{ℕ, _/_, max}
 use lib.Dec.{eqb}
 use lib.ListN.{length}
 use Rattle.theory_spec.specs.Lists.{keep, flat, numbersFrom}
 use Rattle.theory_spec.specs.Indices.{sequenceOf}
 use Rattle.files_spec.specs.Text.{bytes, lineFeed, numeral, commaList, line}
+use Rattle.output_laws.specs.Overlay.{shownNumeral}
 use Rattle.tables_spec.specs.Table.{kept, entryAt}
 
 -- entry i of a table marks its sequence
@@ -18,17 +19,14 @@ marks table i = not (eqb (entryAt table i) kept)
 unfoldable pub tableMarks : List ℕ → List ℕ
 tableMarks table = keep (marks table) (numbersFrom 0 (length table / 2))
 
--- each mark names a smaller index
-abbrev pub MarksEarlier : List ℕ → Type 0
-MarksEarlier table = (i : ℕ) → 2 * i + 1 < length table → entryAt table i ≢ kept → entryAt table i < i
-
--- the rule numbers of the sequence of an index, of at most two of m rules
+-- the rule numbers of the sequence of an index, of at most two of m rules, of one rule where there is none
 unfoldable pub sequenceText : ℕ → ℕ → List ℕ
-sequenceText m i = commaList (map numeral (sequenceOf m 2 i))
+sequenceText m i = commaList (map numeral (sequenceOf (max m 1) 2 i))
 
 -- the lines of a mark: the sequence and its witness, by their indices
 unfoldable pub markText : ℕ → ℕ → ℕ → List ℕ
-markText m i witness = bytes "drop=" ++ sequenceText m i ++ (lineFeed ∷ []) ++ (bytes "for=" ++ sequenceText m witness ++ (lineFeed ∷ []))
+markText m i witness =
+    bytes "drop=" ++ sequenceText m i ++ (lineFeed ∷ []) ++ (bytes "for=" ++ sequenceText m witness ++ (lineFeed ∷ []))
 
 -- the lines of an index, by its entry: none where its sequence is kept
 unfoldable pub entryLines : ℕ → ℕ → ℕ → List ℕ
@@ -40,4 +38,8 @@ marksText m table = flat (λ i. entryLines m i (entryAt table i)) (numbersFrom 0
 
 -- the listing
 unfoldable pub tableText : ℕ → List ℕ → List ℕ
-tableText m table = line "reach=" (numeral 2 ∷ []) ++ line "rules=" (numeral m ∷ []) ++ line "marks=" (numeral (length (tableMarks table)) ∷ []) ++ marksText m table
+tableText m table =
+    line "reach=" (numeral 2 ∷ [])
+    ++ line "rules=" (numeral m ∷ [])
+    ++ line "marks=" (shownNumeral (length (tableMarks table)) ∷ [])
+    ++ marksText m table

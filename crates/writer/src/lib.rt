@@ -1,7 +1,6 @@
 // The writer of rule files.
-mod output;
-
 use buffers::fill_from;
+use file_output::put_file;
 use files_spec::Written;
 use model_spec::RuleSet;
 ghost use mathlib.Core.Path.{_≡_};
@@ -11,7 +10,11 @@ ghost use Rattle.files_spec.specs.Writing.{written, writtenBuffer};
 
 // Writes the file of a set into the text, and zeros after it; zeros alone when refused.
 pub fn write(set: RuleSet, text: &mut [u8]) -> Written
-    ensures { λ r. ⌜ (r ≡ written set (length (now (text .entry)))) × (now (text .exit) ≡ writtenBuffer set (length (now (text .entry)))) × WriteMeaning set (length (now (text .entry))) r (now (text .exit)) ⌝ }
+    ensures { λ r. ⌜
+        (let room = length (now (text .entry)) in
+        (r ≡ written set room)
+        × (now (text .exit) ≡ writtenBuffer set room)
+        × WriteMeaning set room r (now (text .exit))) ⌝ }
 {
     if !validity::is_valid(set) {
         fill_from(text, 0, 0);
@@ -20,7 +23,7 @@ pub fn write(set: RuleSet, text: &mut [u8]) -> Written
             length: 0,
         };
     }
-    let end = crate::output::put_file(text, set);
+    let end = put_file(text, set);
     if text.len() < end {
         fill_from(text, 0, 0);
         return Written {

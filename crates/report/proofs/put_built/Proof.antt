@@ -2,20 +2,18 @@
 -- Assumes nothing.
 use mathlib.Core.Path.{_≡_, sym, ap, _∙_}
 use mathlib.Core.List.{List}
-use Prim.Native.Nat.{ℕ, _*_, _≤_}
+use Prim.Native.Nat.{ℕ, _*_}
 use native.Mathlib.Omega.{arith}
-use lib.ListN.{length}
 use borrow.Author.Needs.{needs}
 use Rattle.model_spec.specs.Validity.{Valid}
 use Rattle.model_spec.specs.declared.RuleSet.{RuleSet}
-use Rattle.tables_spec.specs.Table.{sequenceCount, tableEntries, builtTable}
+use Rattle.tables_spec.specs.Table.{tableEntries, builtTable}
 use Rattle.tables_spec.specs.Answers.{builtBuffer}
-use Rattle.tables_spec.proofs.TableLaws.{built-length}
 use Rattle.tables_spec.proofs.AnswerLaws.{build-ready-iff, built-whole}
 use Rattle.report_spec.specs.Listing.{listingOf}
-use Rattle.report_spec.specs.Marks.{MarksEarlier, tableText}
-use Rattle.report_spec.proofs.MarkLaws.{built-earlier, table-listing}
-use Rattle.report_spec.proofs.LengthLaws.{listing-of-length}
+use Rattle.report_spec.specs.Marks.{tableText}
+use Rattle.report_spec.proofs.MarkLaws.{table-listing}
+use Rattle.report_spec.proofs.LengthLaws.{marked-count}
 use Rattle.report.proofs.put_built.Statement.{statement}
 use Rattle.report.proofs.put_built.Tie as tie
 
@@ -24,31 +22,17 @@ module _ (set : RuleSet) (valid : Valid set) where
   built : (size : ℕ) → size ≡ 2 * tableEntries set 2 → builtBuffer set 2 size ≡ builtTable set 2
   built size e = built-whole set 2 size (build-ready-iff set 2 size .1 (valid, ((omega arith, omega arith), e)))
 
-  module _ (table : List ℕ) (e : table ≡ builtTable set 2) where
-    -- it can be listed
-    ready : (1 ≤ set .count) × (set .count ≤ 31) × (length table ≡ 2 * sequenceCount (set .count) 2) × MarksEarlier table × (length (tableText (set .count) table) ≤ 65535)
-    unfolding tableEntries
-    ready =
-        rw e (
-          valid .formed .countLimits .0,
-          valid .formed .countLimits .1,
-          built-length set 2,
-          built-earlier set,
-          omega (arith, ap length (table-listing set), listing-of-length set (valid .formed .countLimits .1)),
-        )
-
-    -- and its listing is that of the set
-    lists : listingOf set ≡ tableText (set .count) table
-    lists = sym (ap (tableText (set .count)) e ∙ table-listing set)
+  -- its listing is that of the set
+  lists : (table : List ℕ) → table ≡ builtTable set 2 → listingOf set ≡ tableText (set .count) table
+  lists table e =
+      let limits = valid .formed .countLimits in
+      sym (ap (tableText (set .count)) e ∙ table-listing set (limits .0) (omega (arith, marked-count set (limits .1))))
 
 build-table-requires : tie.Need-build-table-requires
 build-table-requires c κs = search needs
 
 put-table-requires : tie.Need-put-table-requires
-put-table-requires c κs =
-    let build = c .before .before .before .before in
-    let s = build .before .before .before .before in
-    ready (s .args .set) (s .pre .0) _ (build .build-table .ensures .1 ∙ built (s .args .set) (s .pre .0) _ (s .pre .1))
+put-table-requires c κs = search needs
 
 same-length : tie.Need-same-length
 same-length c = search needs
@@ -60,7 +44,8 @@ returns : tie.Need-returns
 returns c =
     let build = c .before .before .before .before .before .before .before in
     let s = build .before .before .before .before in
-    rw (lists (s .args .set) (s .pre .0) _ (build .build-table .ensures .1 ∙ built (s .args .set) (s .pre .0) _ (s .pre .1))) (c .before .before .put-table .ensures)
+    let whole = build .build-table .ensures .1 ∙ built (s .args .set) (s .pre .0) _ (s .pre .1) in
+    rw (lists (s .args .set) (s .pre .0) _ whole) (c .before .before .put-table .ensures)
 
 pub put-built-spec : {M : Type 1} → statement M
 put-built-spec =

@@ -1,12 +1,10 @@
 -- `report::put_listing` meets its contract: one line for a refused text, the listing of its set for another.
 -- Assumes nothing.
-use mathlib.Core.List.{[], _∷_}
 use native.Mathlib.Omega.{arith}
-use lib.ListN.{length-append}
 use borrow.Author.Tests.{eq-eqb, ne-eqb}
 use borrow.Author.Needs.{needs}
-use Rattle.files_spec.specs.Text.{lineFeed, numeral, line}
-use Rattle.files_spec.proofs.LengthLaws.{numeral-length}
+use Rattle.files_spec.specs.Text.{line}
+use Rattle.output_laws.proofs.OverlayLaws.{shown-number}
 use Rattle.report.proofs.put_listing.Statement.{statement}
 use Rattle.report.proofs.put_listing.Tie as tie
 
@@ -14,9 +12,7 @@ slice-aggregate-put-number-line : tie.Need-slice-aggregate-put-number-line
 slice-aggregate-put-number-line c = search needs
 
 put-number-line-requires : tie.Need-put-number-line-requires
-put-number-line-requires c κs =
-    let s = c .before .before .before .before in
-    (omega (arith, s .good .1 .0), omega (arith, length-append (numeral (s .args .outcome)) (lineFeed ∷ []), numeral-length (s .args .outcome) .0))
+put-number-line-requires c κs = search needs
 
 same-length : tie.Need-same-length
 same-length c = search needs
@@ -25,7 +21,9 @@ returns : tie.Need-returns
 unfolding line
 returns c =
     let branch = c .before .before .before .before .before in
-    rw (ne-eqb (branch .before .before .args .outcome) 0 (branch .if1 .taken)) (c .before .before .put-number-line .ensures)
+    let outcome = branch .before .before .args .outcome in
+    rw (ne-eqb outcome 0 (branch .if1 .taken))
+    (rw (shown-number outcome (omega arith)) at (c .before .before .put-number-line .ensures))
 
 put-set-requires : tie.Need-put-set-requires
 put-set-requires c κs = c .before .before .before .pre (c .before .if1 .left)

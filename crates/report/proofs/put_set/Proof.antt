@@ -1,63 +1,57 @@
--- `report::put_set` meets its contract: the part of the array that is lent has room for the table, and the array for that part.
+-- `report::put_set` meets its contract: the part of the array that is lent has room for the table, and the array for that
+-- part.
 -- Assumes nothing.
 use mathlib.Core.Path.{_≡_, sym, ap, _∙_}
-use Prim.Native.Nat.{ℕ, suc, _+_, _*_, _≤_}
-use native.Mathlib.Nat.{suc-mul, mul-le-mul-right}
+use Prim.Native.Nat.{ℕ, _*_, _≤_}
 use native.Mathlib.Omega.{arith}
 use lib.ListN.{length, take, replicate, length-replicate}
 use lib.Seq.{length-take-le}
 use borrow.Author.Needs.{needs}
+use Rattle.model_spec.specs.Validity.{Valid}
 use Rattle.model_spec.specs.declared.RuleSet.{RuleSet}
 use Rattle.tables_spec.specs.Table.{sequenceCount, tableEntries}
-use Rattle.tables_spec.proofs.CountLaws.{count-next}
+use Rattle.tables_spec.proofs.CountLaws.{count-prefix}
 use Rattle.report.proofs.put_set.Statement.{statement}
 use Rattle.report.proofs.put_set.Tie as tie
 
--- how many sequences have at most two rules
-entries-two : (set : RuleSet) → tableEntries set 2 ≡ 1 + set .count + set .count * set .count
-unfolding tableEntries
-entries-two set =
-    let m = set .count in
-    let e : sequenceCount m 1 ≡ suc m = omega (arith, count-next m 0) in
-    count-next m 1 ∙ ap (λ k. k * m + 1) e ∙ omega (arith, suc-mul m m)
-
-module _ (m : ℕ) (few : m ≤ 31) where
-  -- 31 rules have 961 sequences of two
-  square-limit : m * m ≤ 961
-  square-limit = omega (arith, mul-le-mul-right m few)
-
+module _ (set : RuleSet) (valid : Valid set) (entries : ℕ) (e : entries ≡ sequenceCount (set .count) 2) where
   -- the part that is lent fits the array
-  part-limit : 2 * (1 + m + m * m) ≤ 1986
-  part-limit = omega (arith, square-limit)
+  part-limit : 2 * entries ≤ 1986
+  part-limit = omega (arith, count-prefix (set .count) 2 (valid .formed .countLimits .1) (omega arith))
 
-  part-length : length (take (2 * (1 + m + m * m)) (replicate {A = ℕ} 1986 0)) ≡ 2 * (1 + m + m * m)
-  part-length = length-take-le (2 * (1 + m + m * m)) (replicate 1986 0) (omega (arith, part-limit, length-replicate {A = ℕ} 1986 0))
+  part-length : length (take (2 * entries) (replicate {A = ℕ} 1986 0)) ≡ 2 * entries
+  part-length = length-take-le (2 * entries) (replicate 1986 0) (omega (arith, part-limit, length-replicate {A = ℕ} 1986 0))
 
-cast-many : tie.Need-cast-many
-cast-many c = search needs
+  -- it has room for the table
+  part-fits : length (take (2 * entries) (replicate {A = ℕ} 1986 0)) ≡ 2 * tableEntries set 2
+  unfolding tableEntries
+  part-fits = part-length ∙ ap (λ n. 2 * n) e
 
-add-size : tie.Need-add-size
-add-size c = search needs
+sequence-count-requires : tie.Need-sequence-count-requires
+sequence-count-requires c κs = search needs
 
 mul-size : tie.Need-mul-size
-mul-size c = let s = c .before .before in omega (arith, square-limit (s .args .set .count) (s .pre .formed .countLimits .1))
-
-add-size-2 : tie.Need-add-size-2
-add-size-2 c = let s = c .before .before in omega (arith, part-limit (s .args .set .count) (s .pre .formed .countLimits .1))
-
-mul-size-2 : tie.Need-mul-size-2
-mul-size-2 c = let s = c .before .before in omega (arith, part-limit (s .args .set .count) (s .pre .formed .countLimits .1))
+mul-size c =
+    let s = c .before .before in
+    omega (arith, part-limit (s .args .set) (s .pre) (c .sequence-count .result) (c .sequence-count .ensures))
 
 array-borrow-prefix-table : tie.Need-array-borrow-prefix-table
-array-borrow-prefix-table c = let s = c .before .before .before in part-limit (s .args .set .count) (s .pre .formed .countLimits .1)
+array-borrow-prefix-table c =
+    let counted = c .before in
+    let s = counted .before .before in
+    part-limit (s .args .set) (s .pre) (counted .sequence-count .result) (counted .sequence-count .ensures)
 
 slice-aggregate-put-built : tie.Need-slice-aggregate-put-built
-slice-aggregate-put-built c = let s = c .before .before .before .before in sym (part-length (s .args .set .count) (s .pre .formed .countLimits .1))
+slice-aggregate-put-built c =
+    let counted = c .before .before in
+    let s = counted .before .before in
+    sym (part-length (s .args .set) (s .pre) (counted .sequence-count .result) (counted .sequence-count .ensures))
 
 put-built-requires : tie.Need-put-built-requires
 put-built-requires c κs =
-    let s = c .before .before .before .before in
-    (s .pre, part-length (s .args .set .count) (s .pre .formed .countLimits .1) ∙ ap (λ n. 2 * n) (sym (entries-two (s .args .set))))
+    let counted = c .before .before in
+    let s = counted .before .before in
+    (s .pre, part-fits (s .args .set) (s .pre) (counted .sequence-count .result) (counted .sequence-count .ensures))
 
 same-length : tie.Need-same-length
 same-length c = search needs
@@ -69,11 +63,8 @@ pub put-set-spec : {M : Type 1} → statement M
 put-set-spec =
     tie.close
     (tie.spec
-    cast-many
-    add-size
+    sequence-count-requires
     mul-size
-    add-size-2
-    mul-size-2
     array-borrow-prefix-table
     slice-aggregate-put-built
     put-built-requires

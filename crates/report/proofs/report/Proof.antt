@@ -3,7 +3,7 @@
 use mathlib.Core.Path.{_≡_, sym, ap, _∙_}
 use mathlib.Core.Bool.{cond}
 use mathlib.Core.List.{List, [], _∷_}
-use Prim.Native.Nat.{ℕ}
+use Prim.Native.Nat.{ℕ, _≤_}
 use native.Mathlib.Omega.{arith}
 use lib.Dec.{eqb}
 use lib.ListN.{length, replicate}
@@ -14,9 +14,11 @@ use Rattle.files_spec.specs.Text.{numeral, line}
 use Rattle.files_spec.specs.Reading.{reading}
 use Rattle.files_spec.specs.declared.Reading.{Reading}
 use Rattle.files_spec.proofs.ReadTextLaws.{read-valid}
-use Rattle.output_laws.proofs.OverlayLaws.{laid-length, zeros-laid}
+use Rattle.output_laws.specs.Overlay.{lastPlace}
+use Rattle.output_laws.proofs.OverlayLaws.{laid-length, laid-end, zeros-laid}
 use Rattle.report_spec.specs.Listing.{listingOf, listing}
 use Rattle.report_spec.specs.Report.{reportLength, reported, ReportMeaning}
+use Rattle.report_spec.proofs.LengthLaws.{listing-bound}
 use Rattle.report_spec.proofs.ReportLaws.{report-fits, report-short, report-meaning}
 use Rattle.report.proofs.report.Statement.{statement}
 use Rattle.report.proofs.report.Tie as tie
@@ -55,8 +57,10 @@ returns c =
     let text = s .text .now in
     let laid = rw (listed text (read .read .result) (read .read .ensures .0)) at (file .put-listing .ensures) in
     let same = laid-length laid in
+    let end = laid-end laid (omega (arith, listing-bound text)) in
     let w = report-short text (length (s .out .now)) (omega arith) in
-    answers text (length (s .out .now)) _ _ (sym (w .0)) (c .before .before .fill-from .ensures ∙ filled-whole 0 _ ∙ ap (λ n. replicate n 0) same ∙ sym (w .1))
+    answers text (length (s .out .now)) _ _ (sym (w .0))
+    (c .before .before .fill-from .ensures ∙ filled-whole 0 _ ∙ ap (λ n. replicate n 0) same ∙ sym (w .1))
 
 fill-from-requires-2 : tie.Need-fill-from-requires-2
 fill-from-requires-2 c κs = search needs
@@ -72,8 +76,11 @@ returns-2 c =
     let text = s .text .now in
     let laid = rw (listed text (read .read .result) (read .read .ensures .0)) at (file .put-listing .ensures) in
     let same = laid-length laid in
+    let low : length (listing text) ≤ lastPlace = omega (arith, listing-bound text) in
+    let end = laid-end laid low in
     let w = report-fits text (length (s .out .now)) (omega arith) in
-    answers text (length (s .out .now)) _ _ (omega (arith, laid .place, w .0)) (c .before .before .fill-from2 .ensures ∙ zeros-laid laid (omega arith) ∙ sym (w .1))
+    answers text (length (s .out .now)) _ _ (end ∙ sym (w .0))
+    (c .before .before .fill-from2 .ensures ∙ zeros-laid laid low (omega arith) ∙ sym (w .1))
 
 pub report-spec : {M : Type 1} → statement M
 report-spec =

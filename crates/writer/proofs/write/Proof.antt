@@ -1,4 +1,5 @@
--- `writer::write` meets its contract. Each way out has one cause or none, and zeros after what was laid; a valid set's file is short enough for `put_file`. What is left has its meaning.
+-- `writer::write` meets its contract. Each way out has one cause or none, and zeros after what was laid; the place after
+-- a valid set's file is the file's length. What is left has its meaning.
 -- Assumes nothing.
 use mathlib.Core.Path.{_≡_, refl, sym, ap, subst, _∙_}
 use mathlib.Core.Bool.{true, false}
@@ -9,17 +10,17 @@ use lib.ListN.{length}
 use borrow.Author.Tests.{lt-ltb, le-ltb}
 use borrow.Author.Needs.{needs}
 use Rattle.theory_spec.specs.Lists.{padded}
-use Rattle.model_spec.specs.Validity.{valid, WellFormed}
+use Rattle.model_spec.specs.Validity.{valid}
 use Rattle.model_spec.specs.declared.RuleSet.{RuleSet}
 use Rattle.model_spec.proofs.LoopLaws.{failed, passed}
-use Rattle.model_spec.proofs.ValidityLaws.{valid-iff}
 use Rattle.files_spec.specs.File.{render}
 use Rattle.files_spec.specs.Writing.{writeCauses, writtenText, written, writtenBuffer}
 use Rattle.files_spec.specs.Meaning.{WriteMeaning}
 use Rattle.files_spec.specs.declared.Written.{Written}
 use Rattle.files_spec.proofs.LengthLaws.{render-bound}
 use Rattle.files_spec.proofs.MeaningLaws.{write-meaning}
-use Rattle.output_laws.proofs.OverlayLaws.{laid-length, zeros-whole, zeros-laid}
+use Rattle.output_laws.specs.Overlay.{lastPlace}
+use Rattle.output_laws.proofs.OverlayLaws.{laid-length, laid-end, zeros-whole, zeros-laid}
 use Rattle.writer.proofs.write.Statement.{statement}
 use Rattle.writer.proofs.write.Tie as tie
 
@@ -59,11 +60,7 @@ returns c =
     answers (s .set) (length (s .text .now)) _ _ (w .0) (c .before .before .fill-from .ensures ∙ zeros-whole _ ∙ w .1)
 
 put-file-requires : tie.Need-put-file-requires
-put-file-requires c κs =
-    let set = c .before .before .before .before .args .set in
-    let t = passed (c .before .before .is-valid .ensures) (c .before .if1 .left) in
-    let v : WellFormed set = valid-iff set .0 t .formed in
-    (v .positionLimits .0, v .positionLimits .1, v .countLimits .1, omega (arith, render-bound set t))
+put-file-requires c κs = search needs
 
 fill-from-requires-2 : tie.Need-fill-from-requires-2
 fill-from-requires-2 c κs = search needs
@@ -76,9 +73,14 @@ returns-2 c =
     let file = c .before .before .before .before .before .before .before in
     let branch = file .before .before in
     let s = branch .before .before .before .args in
-    let same = laid-length (file .put-file .ensures) in
-    let w = no-room (s .set) (length (s .text .now)) (passed (branch .before .is-valid .ensures) (branch .if1 .left)) (omega arith) in
-    answers (s .set) (length (s .text .now)) _ _ (w .0) (c .before .before .fill-from2 .ensures ∙ zeros-whole _ ∙ ap (λ n. padded n 0 []) same ∙ w .1)
+    let room = length (s .text .now) in
+    let t = passed (branch .before .is-valid .ensures) (branch .if1 .left) in
+    let laid = file .put-file .ensures in
+    let same = laid-length laid in
+    let end = laid-end laid (omega (arith, render-bound (s .set) t)) in
+    let w = no-room (s .set) room t (omega arith) in
+    answers (s .set) room _ _ (w .0)
+    (c .before .before .fill-from2 .ensures ∙ zeros-whole _ ∙ ap (λ n. padded n 0 []) same ∙ w .1)
 
 fill-from-requires-3 : tie.Need-fill-from-requires-3
 fill-from-requires-3 c κs = search needs
@@ -91,10 +93,14 @@ returns-3 c =
     let file = c .before .before .before .before .before .before .before in
     let branch = file .before .before in
     let s = branch .before .before .before .args in
+    let room = length (s .text .now) in
+    let t = passed (branch .before .is-valid .ensures) (branch .if1 .left) in
     let laid = file .put-file .ensures in
     let same = laid-length laid in
-    let w = fits (s .set) (length (s .text .now)) (file .put-file .result) (passed (branch .before .is-valid .ensures) (branch .if1 .left)) (omega arith) (omega arith) in
-    answers (s .set) (length (s .text .now)) _ _ (w .0) (c .before .before .fill-from3 .ensures ∙ zeros-laid laid (omega arith) ∙ w .1)
+    let low : length (render (s .set)) ≤ lastPlace = omega (arith, render-bound (s .set) t) in
+    let end = laid-end laid low in
+    let w = fits (s .set) room (file .put-file .result) t end (omega arith) in
+    answers (s .set) room _ _ (w .0) (c .before .before .fill-from3 .ensures ∙ zeros-laid laid low (omega arith) ∙ w .1)
 
 pub write-spec : {M : Type 1} → statement M
 write-spec =

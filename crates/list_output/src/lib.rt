@@ -1,0 +1,73 @@
+// The comma lists of a rule file, each laid over a buffer from a place on.
+use output::put;
+use output::put_number;
+use separators::ending;
+ghost use mathlib.Core.Path.{_≡_};
+ghost use Prim.Native.Nat.{min};
+ghost use lib.ListN.{length};
+ghost use Rattle.files_spec.specs.Text.{numeral};
+ghost use Rattle.files_spec.specs.File.{entryText};
+ghost use Rattle.output_laws.specs.Overlay.{Laid, listText};
+
+// The smaller of two numbers.
+fn smaller(a: usize, b: usize) -> usize
+    ensures { λ r. ⌜ r ≡ min a b ⌝ }
+{
+    if a < b { a } else { b }
+}
+
+// Lays a number of one byte.
+fn put_byte(text: &mut [u8], at: usize, n: u8) -> usize
+    ensures { λ r. ⌜ Laid at (numeral n) (now (text .entry)) r (now (text .exit)) ⌝ }
+{
+    put_number(text, at, n as usize)
+}
+
+// Lays an entry.
+fn put_entry(text: &mut [u8], at: usize, entry: u8) -> usize
+    ensures { λ r. ⌜ Laid at (entryText entry) (now (text .entry)) r (now (text .exit)) ⌝ }
+{
+    if entry < 16 {
+        return put_byte(text, at, entry);
+    }
+    let next = put(text, at, b'x');
+    put_byte(text, next, entry - 15)
+}
+
+// Lays so many of the numbers, or all where there are fewer, with commas between them, and a line feed.
+pub fn put_numbers(text: &mut [u8], at: usize, numbers: &[u8], count: usize) -> usize
+    ensures { λ r. ⌜
+        Laid at (listText numeral count (now (numbers .entry))) (now (text .entry)) r (now (text .exit)) ⌝ }
+{
+    let many = smaller(count, numbers.len());
+    if many < 1 {
+        return put(text, at, b'\n');
+    }
+    let mut next = at;
+    let mut i: usize = 0;
+    while i < many {
+        let end = put_byte(text, next, numbers[i]);
+        next = put(text, end, ending(many - 1 - i));
+        i += 1;
+    }
+    next
+}
+
+// Lays so many of the entries, or all where there are fewer, with commas between them, and a line feed.
+pub fn put_entries(text: &mut [u8], at: usize, entries: &[u8], count: usize) -> usize
+    ensures { λ r. ⌜
+        Laid at (listText entryText count (now (entries .entry))) (now (text .entry)) r (now (text .exit)) ⌝ }
+{
+    let many = smaller(count, entries.len());
+    if many < 1 {
+        return put(text, at, b'\n');
+    }
+    let mut next = at;
+    let mut i: usize = 0;
+    while i < many {
+        let end = put_entry(text, next, entries[i]);
+        next = put(text, end, ending(many - 1 - i));
+        i += 1;
+    }
+    next
+}

@@ -1,0 +1,82 @@
+-- `table_output::put_table` meets its contract: the listing is the pieces that are laid, one after the other.
+-- Assumes nothing.
+use mathlib.Core.Path.{_≡_}
+use mathlib.Core.List.{List, [], _∷_, _++_}
+use Prim.Native.Nat.{ℕ, _≤_}
+use native.Mathlib.Omega.{arith}
+use lib.ListN.{length}
+use borrow.Author.Needs.{needs}
+use Rattle.files_spec.specs.Text.{bytes, lineFeed, line}
+use Rattle.output_laws.specs.Overlay.{shownNumeral}
+use Rattle.output_laws.proofs.OverlayLaws.{shown-number, laid-append}
+use Rattle.report_spec.specs.Marks.{tableMarks, marksText, tableText}
+use Rattle.table_output.proofs.put_table.Statement.{statement}
+use Rattle.table_output.proofs.put_table.Tie as tie
+
+-- the pieces of the listing, as they are laid
+pieces : (m : ℕ) (table : List ℕ) (number : ℕ) → m ≤ 255 → number ≡ length (tableMarks table) → tableText m table
+    ≡ bytes "reach=" ++ shownNumeral 2 ++ (lineFeed ∷ [])
+    ++ (bytes "rules=" ++ shownNumeral m ++ (lineFeed ∷ []))
+    ++ (bytes "marks=" ++ shownNumeral number ++ (lineFeed ∷ []))
+    ++ marksText m table
+unfolding tableText line
+pieces m table number byte e = rw (shown-number m (omega arith), e)
+
+count-marks-requires : tie.Need-count-marks-requires
+count-marks-requires c κs = search needs
+
+slice-aggregate-put-number-line : tie.Need-slice-aggregate-put-number-line
+slice-aggregate-put-number-line c = search needs
+
+put-number-line-requires : tie.Need-put-number-line-requires
+put-number-line-requires c κs = search needs
+
+slice-aggregate-put-number-line-2 : tie.Need-slice-aggregate-put-number-line-2
+slice-aggregate-put-number-line-2 c = search needs
+
+put-number-line-requires-2 : tie.Need-put-number-line-requires-2
+put-number-line-requires-2 c κs = search needs
+
+slice-aggregate-put-number-line-3 : tie.Need-slice-aggregate-put-number-line-3
+slice-aggregate-put-number-line-3 c = search needs
+
+put-number-line-requires-3 : tie.Need-put-number-line-requires-3
+put-number-line-requires-3 c κs = search needs
+
+put-marks-requires : tie.Need-put-marks-requires
+put-marks-requires c κs = search needs
+
+same-length : tie.Need-same-length
+same-length c = search needs
+
+returns : tie.Need-returns
+returns c =
+    let marks = c .before .before in
+    let number = marks .before .before .before .before in
+    let rules = number .before .before .before .before .before in
+    let reach = rules .before .before .before .before .before in
+    let counted = reach .before .before .before in
+    let s = counted .before .before .before in
+    let byte : s .args .count ≤ 255 = omega (arith, s .fits .count) in
+    let found = counted .count-marks in
+    rw (pieces (s .args .count) (s .args .table .now) (found .result) byte (found .ensures))
+    (laid-append
+    (laid-append
+    (laid-append (reach .put-number-line .ensures) (rules .put-number-line2 .ensures))
+    (number .put-number-line3 .ensures))
+    (marks .put-marks .ensures))
+
+pub put-table-spec : {M : Type 1} → statement M
+put-table-spec =
+    tie.close
+    (tie.spec
+    count-marks-requires
+    slice-aggregate-put-number-line
+    put-number-line-requires
+    slice-aggregate-put-number-line-2
+    put-number-line-requires-2
+    slice-aggregate-put-number-line-3
+    put-number-line-requires-3
+    put-marks-requires
+    same-length
+    returns)

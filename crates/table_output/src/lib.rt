@@ -1,0 +1,51 @@
+// The listing of a table, laid over a buffer.
+use mark_output::put_mark;
+use output::put_number_line;
+use tables::KEPT;
+use tables::entry_at;
+ghost use mathlib.Core.Path.{_≡_};
+ghost use lib.ListN.{length};
+ghost use Rattle.output_laws.specs.Overlay.{Laid};
+ghost use Rattle.report_spec.specs.Marks.{tableMarks, marksText, tableText};
+
+// How many sequences a table marks.
+fn count_marks(table: &[u8]) -> usize
+    ensures { λ r. ⌜ r ≡ length (tableMarks (now (table .entry))) ⌝ }
+{
+    let entries = table.len() / 2;
+    let mut marks: usize = 0;
+    let mut i: usize = 0;
+    while i < entries {
+        if entry_at(table, i) != KEPT {
+            marks += 1;
+        }
+        i += 1;
+    }
+    marks
+}
+
+// Lays the lines of all marks.
+fn put_marks(text: &mut [u8], at: usize, count: u8, table: &[u8]) -> usize
+    ensures { λ r. ⌜ Laid at (marksText count (now (table .entry))) (now (text .entry)) r (now (text .exit)) ⌝ }
+{
+    let entries = table.len() / 2;
+    let mut next = at;
+    let mut i: usize = 0;
+    while i < entries {
+        let entry = entry_at(table, i);
+        next = put_mark(text, next, count, i, entry);
+        i += 1;
+    }
+    next
+}
+
+// Lays the listing of a table for so many rules, from the start of the text on.
+pub fn put_table(text: &mut [u8], count: u8, table: &[u8]) -> usize
+    ensures { λ r. ⌜ Laid 0 (tableText count (now (table .entry))) (now (text .entry)) r (now (text .exit)) ⌝ }
+{
+    let number = count_marks(table);
+    let rules = put_number_line(text, 0, b"reach=", 2);
+    let marks = put_number_line(text, rules, b"rules=", count as usize);
+    let first = put_number_line(text, marks, b"marks=", number);
+    put_marks(text, first, count, table)
+}
