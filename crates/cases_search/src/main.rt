@@ -1,44 +1,42 @@
-// Runs the search, the plan handed back and the tally on the cases of standard input and prints what they give. A case is a line: a letter, a space and a text. Each line is printed again, cut at 120 bytes, with the answer
-// after it. A line that begins with `#` is a heading. A number too large for 64 bits counts as the largest that is not.
+// Runs the search and the plan handed back on the cases of standard input and prints what they give. A case is a line: a
+// letter, a space and a text. Each line is printed again, cut at 120 bytes, with the answer after it. A line that begins
+// with `#` is a heading. A number too large for 64 bits counts as the largest that is not.
 // - `f` read the text, in which `/` stands for a line feed: the outcome. Its set is the one of the lines that follow
 // - `s` change the set's number of positions and its number of rules to these two: whether it is valid
-// - `b` a reach and a size: fill that many bytes with 170 and build a table in them, which then stands: the outcome and how many marks it has. A size above 65,536 counts as 65,536, here and for `t`
-// - `t` a size and entries, as `6:7,16:12`: the table that stands is that many bytes of 255, with these values at these indices: how many marks it has
-// - `q` a reach, a start, a goal, a move bound, a cost bound, a step limit and a room: search with the table that stands and a plan buffer of `room` bytes, each 170 before: outcome, cost, length
-//   and steps; the plan's moves, as `plan_part` hands them back; whether every other byte of the buffer is 255. Start and goal have commas between their bytes, `-` is one of no bytes. A byte above 255
-//   counts as 255, a cost bound above 65,535, a step limit above 4,294,967,295 and a room above 4,096 as these numbers, here and for the letters below
-// - `c` five counts with commas between, plans found, no plan, step limit exceeded, refused and steps: they are the tally that then stands: the tally. All five are 0 before the first line
-// - `k` the same as for `q`: a search that updates the tally that stands, with the first `room` bytes of the plan buffer that stands: what `q` gives, and the tally. This buffer has 4,096 bytes,
-//   each 170 before the first line; each `k` finds it as the last one left it, and `q` does not use it
-// - `u` an outcome and a number of steps: the tally that stands after a query with these: once by value, once where it is kept. An outcome above 255 counts as 255, steps above 4,294,967,295 as
-//   that number
-// - `p` a length and a room: the plan handed back for that length from the first `room` bytes of the plan buffer that stands: its bytes
+// - `b` a reach and a size: fill that many bytes with 170 and build a table in them, which then stands: the outcome and
+//   how many marks it has. A size above 65,536 counts as 65,536, here and for `t`
+// - `t` a size and entries, as `6:7,16:12`: the table that stands is that many bytes of 255, with these values at these
+//   indices: how many marks it has
+// - `q` a reach, a start, a goal, a move bound, a cost bound, a step limit and a room: search with the table that stands
+//   and a plan buffer of `room` bytes, each 170 before: outcome, cost, length and steps; the plan's moves, as `plan_part`
+//   hands them back; whether every other byte of the buffer is 255. Start and goal have commas between their bytes, `-`
+//   is one of no bytes. A byte above 255 counts as 255, a cost bound above 65,535, a step limit above 4,294,967,295 and a
+//   room above 4,096 as these numbers
 // A board of three by three cells has a position for each cell, row by row, that holds 0 for a blank (blanks are alike) or the number of a tile. Its 24 rules are in the order of their names
 // in source 000, by row, column and direction, as in `cases_tables`: 1 is 11D, 5 is 12R, 9 is 21R, 19 is 31U.
 // The answers that `stdout` holds were worked out from document 01 by a script that runs every sequence within the bounds, pruned or not, counts those without a marked segment and keeps the first
 // of the cheapest that lead to the goal. Where there are too many (32 moves of E and of the arrows), it keeps for each length and state the cheapest sequence that leads there, the first of these,
 // and counts the unpruned ones by state, last rules and cost; elsewhere both ways were compared. Marks were tested in every state or, where there are too many, in one whose free entries are all
-// different. P1 to P5, P9 and P10 are as document 01 gives them, and the numbers of steps that a heading gives were worked out by hand. Tallies and parts of the plan buffer came from a script too.
+// different. P1 to P5, P9 and P10 are as document 01 gives them, and the numbers of steps that a heading gives were worked out by hand.
 use buffers::fill_from;
+use bytes::scan::find;
+use cases_buffers::list_of;
+use cases_buffers::put_entry;
+use cases_common::behind;
+use cases_common::decode;
+use cases_common::number_of;
+use cases_common::up_to;
 use libc::STDIN_FILENO;
 use libc::STDOUT_FILENO;
 use model_spec::RuleSet;
 use search_spec::Answer;
-use search_spec::Tally;
 ghost use Prim.Native.Nat.{_≤_};
 ghost use lib.ListN.{length};
 
-// What the lines before leave: the rule set, how many bytes the table that stands has, and the tally.
+// What the lines before leave: the rule set, and how many bytes the table that stands has.
 struct Standing {
     set: RuleSet,
     size: usize,
-    tally: Tally,
-}
-
-// An answer, and the tally updated by it.
-struct Counted {
-    answer: Answer,
-    tally: Tally,
 }
 
 fn print(text: &[u8]) {
@@ -53,76 +51,6 @@ fn print_byte(n: u8) {
     print_number(n as u64);
 }
 
-// Puts a text into a buffer, as far as there is room, with a line feed for each `/`; gives its length.
-fn decode(input: &[u8], text: &mut [u8]) -> usize
-    ensures { λ r. ⌜ r ≤ length (now (text .entry)) ⌝ }
-{
-    let mut count: usize = 0;
-    while count < text.len() {
-        if input.len() <= count {
-            return count;
-        }
-        let mut byte = input[count];
-        if byte == b'/' {
-            byte = b'\n';
-        }
-        text[count] = byte;
-        count += 1;
-    }
-    count
-}
-
-// The first place of a byte in a text; the text's length where there is none.
-fn place_of(byte: u8, text: &[u8]) -> usize
-    ensures { λ r. ⌜ r ≤ length (now (text .entry)) ⌝ }
-{
-    let mut i: usize = 0;
-    while i < text.len() {
-        if text[i] == byte {
-            return i;
-        }
-        i += 1;
-    }
-    i
-}
-
-// What follows the first place of a byte in a text; nothing where there is none.
-fn behind(byte: u8, text: &[u8]) -> &[u8] {
-    let size = place_of(byte, text);
-    if text.len() <= size {
-        return &text[size..];
-    }
-    &text[size + 1..]
-}
-
-// The part of a text up to the first place of a byte; all of it where there is none.
-fn up_to(byte: u8, text: &[u8]) -> &[u8] {
-    let size = place_of(byte, text);
-    &text[0..size]
-}
-
-// A number with one digit more; the largest one where that is too large.
-fn with_digit(number: usize, digit: u8) -> usize {
-    if 1844674407370955161 < number {
-        return 18446744073709551615;
-    }
-    let tens = 10 * number;
-    let ones = (digit % 16) as usize;
-    if 18446744073709551615 - tens < ones {
-        return 18446744073709551615;
-    }
-    tens + ones
-}
-
-// The number of a text.
-fn number_of(text: &[u8]) -> usize {
-    let mut number: usize = 0;
-    for i in 0..text.len() {
-        number = with_digit(number, text[i]);
-    }
-    number
-}
-
 // The smaller of two numbers.
 fn least(a: usize, b: usize) -> usize
     ensures { λ r. ⌜ r ≤ a ⌝ }
@@ -134,50 +62,12 @@ fn least(a: usize, b: usize) -> usize
     b
 }
 
-// Puts a byte at a place of a buffer, if it has that place.
-fn put_byte(place: usize, value: usize, bytes: &mut [u8]) {
-    if place < bytes.len() {
-        bytes[place] = (value % 256) as u8;
-    }
-}
-
-// Puts the numbers of a comma list into a buffer, as far as there is room, 255 for each that is larger; gives how many these are. `-` is the empty list.
-fn list_of(text: &[u8], bytes: &mut [u8]) -> usize
-    ensures { λ r. ⌜ r ≤ length (now (bytes .entry)) ⌝ }
-{
-    let mut count: usize = 0;
-    let mut from: usize = 0;
-    if place_of(b'-', text) == 0 {
-        return 0;
-    }
-    while count < bytes.len() {
-        if text.len() <= from {
-            return count;
-        }
-        let rest = &text[from..];
-        let size = place_of(b',', rest);
-        put_byte(count, least(number_of(&rest[0..size]), 255), bytes);
-        count += 1;
-        from += size + 1;
-    }
-    count
-}
-
-// Puts an entry at an index, low byte first.
-fn put_entry(index: usize, value: usize, table: &mut [u8]) {
-    if 32768 <= index {
-        return;
-    }
-    put_byte(2 * index, value, table);
-    put_byte(2 * index + 1, value / 256, table);
-}
-
 // Puts all entries of a text, as `6:7,16:12`, into the table.
 fn put_entries(text: &[u8], table: &mut [u8]) {
     let mut from: usize = 0;
     while from < text.len() {
         let rest = &text[from..];
-        let size = place_of(b',', rest);
+        let size = find(rest, 0, rest.len(), b',');
         let entry = &rest[0..size];
         let index = number_of(up_to(b':', entry));
         let value = number_of(behind(b':', entry));
@@ -269,8 +159,8 @@ fn blank(plan: &[u8]) -> bool {
     true
 }
 
-// The answer of a search, and what it left in the plan buffer.
-fn print_answer(answer: Answer, plan: &[u8]) {
+// The numbers of a search's answer.
+fn print_numbers(answer: Answer) {
     print_byte(answer.outcome);
     print(b"; cost ");
     print_number(answer.cost as u64);
@@ -278,9 +168,13 @@ fn print_answer(answer: Answer, plan: &[u8]) {
     print_byte(answer.length);
     print(b"; steps ");
     print_number(answer.steps as u64);
+}
+
+// A plan of this length, and what else is in the plan buffer.
+fn print_plan(length: usize, plan: &[u8]) {
     print(b"; plan ");
-    print_moves(answers::plan_part(plan, answer.length as usize));
-    let size = least(answer.length as usize, plan.len());
+    print_moves(answers::plan_part(plan, length));
+    let size = least(length, plan.len());
     if blank(&plan[size..]) {
         print(b"; rest 255");
         return;
@@ -288,109 +182,13 @@ fn print_answer(answer: Answer, plan: &[u8]) {
     print(b"; rest not 255");
 }
 
-// A search with a plan buffer over bytes of 170.
-fn print_search(
-    set: RuleSet,
-    reach: usize,
-    table: &[u8],
-    start: &[u8],
-    goal: &[u8],
-    moves: usize,
-    cost: u16,
-    limit: u32,
-    plan: &mut [u8],
-) {
-    fill_from(plan, 0, 170);
-    let answer = search::search(set, reach, table, start, goal, moves, cost, limit, plan);
-    print_answer(answer, plan);
+// The answer of a search, and what it left in the plan buffer.
+fn print_answer(answer: Answer, plan: &[u8]) {
+    print_numbers(answer);
+    print_plan(answer.length as usize, plan);
 }
 
-// The counts of a tally, with commas between.
-fn print_tally(tally: Tally) {
-    print_number(tally.solved);
-    print(b",");
-    print_number(tally.unsolvable);
-    print(b",");
-    print_number(tally.limited);
-    print(b",");
-    print_number(tally.refused);
-    print(b",");
-    print_number(tally.steps);
-}
-
-// A search with a tally that is kept in a local.
-fn counted_search(
-    set: RuleSet,
-    reach: usize,
-    table: &[u8],
-    start: &[u8],
-    goal: &[u8],
-    max_moves: usize,
-    max_cost: u16,
-    step_limit: u32,
-    plan: &mut [u8],
-    tally: Tally,
-) -> Counted {
-    let mut local = tally;
-    let answer = tallied_search::search_with_tally(
-        set,
-        reach,
-        table,
-        start,
-        goal,
-        max_moves,
-        max_cost,
-        step_limit,
-        plan,
-        &mut local,
-    );
-    Counted {
-        answer,
-        tally: local,
-    }
-}
-
-// The update of a tally that is kept in a local.
-fn updated(tally: Tally, outcome: u8, steps: u32) -> Tally {
-    let mut local = tally;
-    tally::update(&mut local, outcome, steps);
-    local
-}
-
-// A search that updates the tally, with a plan buffer as it is; gives the tally.
-fn print_tallied_search(
-    set: RuleSet,
-    reach: usize,
-    table: &[u8],
-    start: &[u8],
-    goal: &[u8],
-    moves: usize,
-    cost: u16,
-    limit: u32,
-    plan: &mut [u8],
-    tally: Tally,
-) -> Tally {
-    let counted = counted_search(
-        set,
-        reach,
-        table,
-        start,
-        goal,
-        moves,
-        cost,
-        limit,
-        plan,
-        tally,
-    );
-    let answer = counted.answer;
-    let next = counted.tally;
-    print_answer(answer, plan);
-    print(b"; tally ");
-    print_tally(next);
-    next
-}
-
-// The search for a start and a goal, with the tally or without; the text holds moves, cost, limit and room. Gives the tally.
+// The search for a start and a goal, with a plan buffer over bytes of 170; the text holds moves, cost, limit and room.
 fn print_found(
     set: RuleSet,
     reach: usize,
@@ -399,9 +197,7 @@ fn print_found(
     goal: &[u8],
     text: &[u8],
     plan: &mut [u8],
-    tally: Tally,
-    counted: bool,
-) -> Tally {
+) {
     let moves = number_of(up_to(b' ', text));
     let bounds = behind(b' ', text);
     let cost = least(number_of(up_to(b' ', bounds)), 65535) as u16;
@@ -409,35 +205,16 @@ fn print_found(
     let limit = least(number_of(up_to(b' ', limits)), 4294967295) as u32;
     let room = least(number_of(behind(b' ', limits)), plan.len());
     let part = &mut plan[0..room];
-    if counted {
-        return print_tallied_search(
-            set,
-            reach,
-            table,
-            start,
-            goal,
-            moves,
-            cost,
-            limit,
-            part,
-            tally,
-        );
-    }
-    print_search(set, reach, table, start, goal, moves, cost, limit, part);
-    tally
+    fill_from(part, 0, 170);
+    let answer = search::search(set, reach, table, start, goal, moves, cost, limit, part);
+    print_answer(answer, part);
 }
 
-// The search of a text with this plan buffer, with the tally or without; gives the tally.
-fn print_query(
-    set: RuleSet,
-    text: &[u8],
-    table: &[u8],
-    plan: &mut [u8],
-    tally: Tally,
-    counted: bool,
-) -> Tally {
+// The search of a text.
+fn print_query(set: RuleSet, text: &[u8], table: &[u8]) {
     let mut starts = io::buffer();
     let mut goals = io::buffer();
+    let mut plan = io::buffer();
     let reach = number_of(up_to(b' ', text));
     let states = behind(b' ', text);
     let start = list_of(up_to(b' ', states), &mut starts);
@@ -451,63 +228,8 @@ fn print_query(
         &starts[0..start],
         &goals[0..goal],
         numbers,
-        plan,
-        tally,
-        counted,
-    )
-}
-
-// The answer to `q`: a plan buffer of its own, and the tally as it was.
-fn print_untallied(set: RuleSet, text: &[u8], table: &[u8], tally: Tally) -> Tally {
-    let mut plan = io::buffer();
-    print_query(set, text, table, &mut plan, tally, false)
-}
-
-// The tally of a comma list.
-fn tally_of(text: &[u8]) -> Tally {
-    let solved = number_of(up_to(b',', text)) as u64;
-    let second = behind(b',', text);
-    let unsolvable = number_of(up_to(b',', second)) as u64;
-    let third = behind(b',', second);
-    let limited = number_of(up_to(b',', third)) as u64;
-    let fourth = behind(b',', third);
-    let refused = number_of(up_to(b',', fourth)) as u64;
-    let steps = number_of(behind(b',', fourth)) as u64;
-    Tally {
-        solved,
-        unsolvable,
-        limited,
-        refused,
-        steps,
-    }
-}
-
-// The answer to `c`; gives the tally.
-fn print_set_tally(text: &[u8]) -> Tally {
-    let tally = tally_of(text);
-    print(b"tally ");
-    print_tally(tally);
-    tally
-}
-
-// The answer to `u`; gives the tally.
-fn print_updates(tally: Tally, text: &[u8]) -> Tally {
-    let outcome = least(number_of(up_to(b' ', text)), 255) as u8;
-    let steps = least(number_of(behind(b' ', text)), 4294967295) as u32;
-    print(b"by value ");
-    print_tally(tally::tallied(tally, outcome, steps));
-    let next = updated(tally, outcome, steps);
-    print(b"; by reference ");
-    print_tally(next);
-    next
-}
-
-// The answer to `p`.
-fn print_part(text: &[u8], plan: &[u8]) {
-    let size = number_of(up_to(b' ', text));
-    let room = least(number_of(behind(b' ', text)), plan.len());
-    print(b"part ");
-    print_moves(answers::plan_part(&plan[0..room], size));
+        &mut plan,
+    );
 }
 
 // The set of a text, with its outcome printed.
@@ -534,72 +256,29 @@ fn changed_set(set: RuleSet, text: &[u8]) -> RuleSet {
     other
 }
 
-// The tally after a case, by its letter; a letter that is none of these stands for `q`.
-fn next_tally(
-    set: RuleSet,
-    tally: Tally,
-    verb: u8,
-    text: &[u8],
-    table: &[u8],
-    plan: &mut [u8],
-) -> Tally {
-    if verb == b'c' {
-        return print_set_tally(text);
-    }
-    if verb == b'u' {
-        return print_updates(tally, text);
-    }
-    if verb == b'p' {
-        print_part(text, plan);
-        return tally;
-    }
-    if verb == b'k' {
-        return print_query(set, text, table, plan, tally, true);
-    }
-    print_untallied(set, text, table, tally)
-}
-
-// The answer to a case, by its letter; gives what stands for the next case.
-fn answer(standing: Standing, verb: u8, text: &[u8], table: &mut [u8], plan: &mut [u8]) -> Standing
-    requires { ⌜ standing .size ≤ length (now table) ⌝ }
-    ensures { λ r. ⌜ r .size ≤ length (now (table .entry)) ⌝ }
-{
-    let set = standing.set;
-    let size = standing.size;
-    let tally = standing.tally;
+// The set after a case: of `f` and `s` the one that they give.
+fn next_set(set: RuleSet, verb: u8, text: &[u8]) -> RuleSet {
     if verb == b'f' {
-        return Standing {
-            set: read_set(text),
-            size,
-            tally,
-        };
+        return read_set(text);
     }
     if verb == b's' {
-        return Standing {
-            set: changed_set(set, text),
-            size,
-            tally,
-        };
+        return changed_set(set, text);
     }
+    set
+}
+
+// The size of the table that stands after a case: of `b` and `t` the one that they give. The answer to `q`.
+fn next_size(set: RuleSet, size: usize, verb: u8, text: &[u8], table: &mut [u8]) -> usize {
     if verb == b'b' {
-        return Standing {
-            set,
-            size: built(set, text, table),
-            tally,
-        };
+        return built(set, text, table);
     }
     if verb == b't' {
-        return Standing {
-            set,
-            size: made(text, table),
-            tally,
-        };
+        return made(text, table);
     }
-    Standing {
-        set,
-        size,
-        tally: next_tally(set, tally, verb, text, &table[0..size], plan),
+    if verb == b'q' {
+        print_query(set, text, &table[0..least(size, table.len())]);
     }
+    size
 }
 
 // The line, cut at 120 bytes.
@@ -613,10 +292,7 @@ fn print_line(line: &[u8]) {
 }
 
 // One case, or a heading, on a line of the input; gives what stands for the next line.
-fn run(standing: Standing, line: &[u8], table: &mut [u8], plan: &mut [u8]) -> Standing
-    requires { ⌜ standing .size ≤ length (now table) ⌝ }
-    ensures { λ r. ⌜ r .size ≤ length (now (table .entry)) ⌝ }
-{
+fn run(standing: Standing, line: &[u8], table: &mut [u8]) -> Standing {
     if line.len() < 2 {
         return standing;
     }
@@ -626,33 +302,27 @@ fn run(standing: Standing, line: &[u8], table: &mut [u8], plan: &mut [u8]) -> St
         return standing;
     }
     print(b": ");
-    let next = answer(standing, line[0], &line[2..], table, plan);
+    let set = next_set(standing.set, line[0], &line[2..]);
+    let size = next_size(set, standing.size, line[0], &line[2..], table);
     print(b"\n");
-    next
+    Standing { set, size }
 }
 
-// What stands before the first line: the empty set, no table, and a tally of 0 throughout.
-fn first_standing() -> Standing
-    ensures { λ r. ⌜ r .size ≤ 0 ⌝ }
-{
+// What stands before the first line: the empty set, and no table.
+fn first_standing() -> Standing {
     let empty = reader::read(b"");
     let set = empty.set;
-    let tally = tally_of(b"");
-    Standing {
-        set,
-        size: 0,
-        tally,
-    }
+    Standing { set, size: 0 }
 }
 
 // The cases of all lines.
-fn run_lines(input: &[u8], table: &mut [u8], plan: &mut [u8]) {
+fn run_lines(input: &[u8], table: &mut [u8]) {
     let mut standing = first_standing();
     let mut from: usize = 0;
     while from < input.len() {
         let rest = &input[from..];
-        let size = place_of(b'\n', rest);
-        standing = run(standing, &rest[0..size], table, plan);
+        let size = find(rest, 0, rest.len(), b'\n');
+        standing = run(standing, &rest[0..size], table);
         from += size + 1;
     }
 }
@@ -660,8 +330,6 @@ fn run_lines(input: &[u8], table: &mut [u8], plan: &mut [u8]) {
 fn main() {
     let mut input = io::large_buffer();
     let mut table = io::large_buffer();
-    let mut plan = io::buffer();
-    fill_from(&mut plan, 0, 170);
     let n = io::read_full(STDIN_FILENO, &mut input);
-    run_lines(&input[..n], &mut table, &mut plan);
+    run_lines(&input[..n], &mut table);
 }

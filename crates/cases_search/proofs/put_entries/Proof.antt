@@ -25,8 +25,8 @@ part-rest-start c = search needs
 part-rest-end : tie.Need-part-rest-end Inv-loop μ-loop
 part-rest-end c = search needs
 
-place-of-requires : tie.Need-place-of-requires Inv-loop μ-loop
-place-of-requires c κs = search needs
+find-requires : tie.Need-find-requires Inv-loop μ-loop
+find-requires c κs = search needs
 
 sub-entry : tie.Need-sub-entry Inv-loop μ-loop
 sub-entry c = search needs
@@ -80,7 +80,7 @@ put-entries-spec =
     sub-rest
     part-rest-start
     part-rest-end
-    place-of-requires
+    find-requires
     sub-entry
     part-entry-start
     part-entry-end

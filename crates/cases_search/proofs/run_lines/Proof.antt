@@ -1,17 +1,17 @@
--- `cases_search::run_lines` meets its contract. Each turn leaves less of the input. The invariant: the table and the plan buffer keep their lengths, and the table that stands is no longer.
+-- `cases_search::run_lines` meets its contract. Each turn leaves less of the input. The invariant: the table keeps its length.
 -- Assumes nothing.
 use mathlib.Core.Path.{_≡_}
-use Prim.Native.Nat.{_≤_, _-_}
+use Prim.Native.Nat.{_-_}
 use lib.ListN.{length}
 use borrow.Author.Needs.{needs}
 use Rattle.cases_search.proofs.run_lines.Statement.{statement}
 use Rattle.cases_search.proofs.run_lines.Tie as tie
 
 abbrev Inv-loop : tie.InvT-loop
-Inv-loop input table₀ plan₀ standing₀ from₀ table plan standing from = (length table ≡ length table₀) × (length plan ≡ length plan₀) × (standing .size ≤ length table₀)
+Inv-loop input table₀ standing₀ from₀ table standing from = length table ≡ length table₀
 
 abbrev μ-loop : tie.MeasureT-loop
-μ-loop input table₀ plan₀ standing₀ from₀ table plan standing from = length input - from
+μ-loop input table₀ standing₀ from₀ table standing from = length input - from
 
 first-standing-requires : tie.Need-first-standing-requires Inv-loop μ-loop
 first-standing-requires c κs = search needs
@@ -28,8 +28,8 @@ part-rest-start c = search needs
 part-rest-end : tie.Need-part-rest-end Inv-loop μ-loop
 part-rest-end c = search needs
 
-place-of-requires : tie.Need-place-of-requires Inv-loop μ-loop
-place-of-requires c κs = search needs
+find-requires : tie.Need-find-requires Inv-loop μ-loop
+find-requires c κs = search needs
 
 sub-run : tie.Need-sub-run Inv-loop μ-loop
 sub-run c = search needs
@@ -58,9 +58,6 @@ loop-again c = search needs
 same-length : tie.Need-same-length Inv-loop μ-loop
 same-length c = search needs
 
-same-length-2 : tie.Need-same-length-2 Inv-loop μ-loop
-same-length-2 c = search needs
-
 returns : tie.Need-returns Inv-loop μ-loop
 returns c = search needs
 
@@ -75,7 +72,7 @@ run-lines-spec =
     sub-rest
     part-rest-start
     part-rest-end
-    place-of-requires
+    find-requires
     sub-run
     part-run-start
     part-run-end
@@ -85,5 +82,4 @@ run-lines-spec =
     loop-less
     loop-again
     same-length
-    same-length-2
     returns)

@@ -1,4 +1,4 @@
--- `cases_search::updated` meets its contract: a walk of its MIR, by hand. The local is lent to `update` for a lifetime that is made for the call, and comes back at what `update` left there.
+-- `cases_tally::updated` meets its contract: a walk of its MIR, by hand. The local is lent to `update` for a lifetime that is made for the call, and comes back at what `update` left there.
 -- All that it knows of `update` is that it meets its contract.
 -- Assumes nothing.
 use mathlib.Core.Path.{refl, sym, ap, subst}
@@ -47,10 +47,10 @@ use Rattle.tally.proofs.update as g
 use Rattle.tally.proofs.update.Symbol as g-def
 use Rattle.tally.proofs.update.Symbol.{name as #tally·update}
 use Rattle.tally.proofs.update.Met as g-thm
-use Rattle.cases_search.proofs.updated.Key.{name as #cases-search·updated}
-use Rattle.cases_search.proofs.updated as f
-use Rattle.cases_search.proofs.updated.Statement as stated
-use Rattle.cases_search.proofs.updated.Code as code
+use Rattle.cases_tally.proofs.updated.Key.{name as #cases-search·updated}
+use Rattle.cases_tally.proofs.updated as f
+use Rattle.cases_tally.proofs.updated.Statement as stated
+use Rattle.cases_tally.proofs.updated.Code as code
 
 abbrev Arg : Type 0
 Arg = Tally × (ℕ × (ℕ × Unit {0}))

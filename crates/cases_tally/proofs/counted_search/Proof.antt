@@ -1,4 +1,4 @@
--- `cases_search::counted_search` meets its contract: a walk of its MIR, by hand. The local is lent to `search_with_tally` for a lifetime that is made for the call, and comes back at what that left there; the plan buffer is given up for good.
+-- `cases_tally::counted_search` meets its contract: a walk of its MIR, by hand. The local is lent to `search_with_tally` for a lifetime that is made for the call, and comes back at what that left there; the plan buffer is given up for good.
 -- All that it knows of `search_with_tally` is that it meets its contract.
 -- Assumes nothing.
 use mathlib.Core.Path.{_≡_, refl, ap, subst}
@@ -57,13 +57,13 @@ use Rattle.tallied_search.proofs.search_with_tally as g
 use Rattle.tallied_search.proofs.search_with_tally.Symbol as g-def
 use Rattle.tallied_search.proofs.search_with_tally.Symbol.{name as #tallied-search·search-with-tally}
 use Rattle.tallied_search.proofs.search_with_tally.Met as g-thm
-use Rattle.cases_search.specs.declared.Counted.{Counted}
-use Rattle.cases_search.proofs.Counted as K
-use Rattle.cases_search.proofs.Counted.Laws as K′
-use Rattle.cases_search.proofs.counted_search.Key.{name as #cases-search·counted-search}
-use Rattle.cases_search.proofs.counted_search as f
-use Rattle.cases_search.proofs.counted_search.Statement as stated
-use Rattle.cases_search.proofs.counted_search.Code as code
+use Rattle.cases_tally.specs.declared.Counted.{Counted}
+use Rattle.cases_tally.proofs.Counted as K
+use Rattle.cases_tally.proofs.Counted.Laws as K′
+use Rattle.cases_tally.proofs.counted_search.Key.{name as #cases-search·counted-search}
+use Rattle.cases_tally.proofs.counted_search as f
+use Rattle.cases_tally.proofs.counted_search.Statement as stated
+use Rattle.cases_tally.proofs.counted_search.Code as code
 
 -- of the parameters that are lent for reading, and of those passed by value, nothing is had at exit
 abbrev stayed : Stays (f.ended .signature .params) (f.ended .kept)

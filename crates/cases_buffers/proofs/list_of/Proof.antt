@@ -1,11 +1,11 @@
--- `cases_search::list_of` meets its contract. The invariant: the buffer keeps its length, and no more is put in than fits.
+-- `cases_buffers::list_of` meets its contract. The invariant: the buffer keeps its length, and no more is put in than fits.
 -- Assumes nothing.
 use mathlib.Core.Path.{_≡_}
 use Prim.Native.Nat.{_≤_, _-_}
 use lib.ListN.{length}
 use borrow.Author.Needs.{needs}
-use Rattle.cases_search.proofs.list_of.Statement.{statement}
-use Rattle.cases_search.proofs.list_of.Tie as tie
+use Rattle.cases_buffers.proofs.list_of.Statement.{statement}
+use Rattle.cases_buffers.proofs.list_of.Tie as tie
 
 abbrev Inv-loop : tie.InvT-loop
 Inv-loop text bytes₀ count₀ from₀ bytes count from = (length bytes ≡ length bytes₀) × (count ≤ length bytes₀)
@@ -13,8 +13,8 @@ Inv-loop text bytes₀ count₀ from₀ bytes count from = (length bytes ≡ len
 abbrev μ-loop : tie.MeasureT-loop
 μ-loop text bytes₀ count₀ from₀ bytes count from = length bytes₀ - count
 
-place-of-requires : tie.Need-place-of-requires Inv-loop μ-loop
-place-of-requires c κs = search needs
+find-requires : tie.Need-find-requires Inv-loop μ-loop
+find-requires c κs = search needs
 
 returns : tie.Need-returns Inv-loop μ-loop
 returns c = search needs
@@ -37,8 +37,8 @@ part-rest-start c = search needs
 part-rest-end : tie.Need-part-rest-end Inv-loop μ-loop
 part-rest-end c = search needs
 
-place-of-requires-2 : tie.Need-place-of-requires-2 Inv-loop μ-loop
-place-of-requires-2 c κs = search needs
+find-requires-2 : tie.Need-find-requires-2 Inv-loop μ-loop
+find-requires-2 c κs = search needs
 
 sub-number-of : tie.Need-sub-number-of Inv-loop μ-loop
 sub-number-of c = search needs
@@ -85,7 +85,7 @@ list-of-spec =
     (tie.spec
     Inv-loop
     μ-loop
-    place-of-requires
+    find-requires
     returns
     loop-holds
     same-length
@@ -93,7 +93,7 @@ list-of-spec =
     sub-rest
     part-rest-start
     part-rest-end
-    place-of-requires-2
+    find-requires-2
     sub-number-of
     part-number-of-start
     part-number-of-end

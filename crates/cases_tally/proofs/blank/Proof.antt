@@ -1,16 +1,16 @@
--- `cases_search::place_of` meets its contract. The invariant: the place is within the text.
+-- `cases_tally::blank` meets its contract. Each turn leaves one byte fewer.
 -- Assumes nothing.
-use Prim.Native.Nat.{_≤_, _-_}
+use Prim.Native.Nat.{_-_}
 use lib.ListN.{length}
 use borrow.Author.Needs.{needs}
-use Rattle.cases_search.proofs.place_of.Statement.{statement}
-use Rattle.cases_search.proofs.place_of.Tie as tie
+use Rattle.cases_tally.proofs.blank.Statement.{statement}
+use Rattle.cases_tally.proofs.blank.Tie as tie
 
 abbrev Inv-loop : tie.InvT-loop
-Inv-loop byte text i₀ i = i ≤ length text
+Inv-loop plan i₀ i-end i = Unit {0}
 
 abbrev μ-loop : tie.MeasureT-loop
-μ-loop byte text i₀ i = length text - i
+μ-loop plan i₀ i-end i = length plan - i
 
 loop-holds : tie.Need-loop-holds Inv-loop μ-loop
 loop-holds c = search needs
@@ -33,8 +33,8 @@ loop-again c = search needs
 returns-2 : tie.Need-returns-2 Inv-loop μ-loop
 returns-2 c = search needs
 
-pub place-of-spec : {M : Type 1} → statement M
-place-of-spec =
+pub blank-spec : {M : Type 1} → statement M
+blank-spec =
     tie.close
     (tie.spec
     Inv-loop

@@ -1,0 +1,547 @@
+// Runs the search with a tally, the tally alone and the plan handed back on the cases of standard input and prints what
+// they give. The lines are as in `cases_search`, with the letters `f`, `s`, `b`, `t` and `q` as there, and four more:
+// - `c` five counts with commas between, plans found, no plan, step limit exceeded, refused and steps: they are the tally
+//   that then stands: the tally. All five are 0 before the first line
+// - `k` the same as for `q`: a search that updates the tally that stands, with the first `room` bytes of the plan buffer
+//   that stands: what `q` gives, and the tally. This buffer has 4,096 bytes, each 170 before the first line; each `k`
+//   finds it as the last one left it, and `q` does not use it
+// - `u` an outcome and a number of steps: the tally that stands after a query with these: once by value, once where it is
+//   kept. An outcome above 255 counts as 255, steps above 4,294,967,295 as that number
+// - `p` a length and a room: the plan handed back for that length from the first `room` bytes of the plan buffer that
+//   stands: its bytes
+// The answers that `stdout` holds were worked out from document 01 by scripts, those of searches as in `cases_search`.
+use buffers::fill_from;
+use bytes::scan::find;
+use cases_buffers::list_of;
+use cases_buffers::put_entry;
+use cases_common::behind;
+use cases_common::decode;
+use cases_common::number_of;
+use cases_common::up_to;
+use libc::STDIN_FILENO;
+use libc::STDOUT_FILENO;
+use model_spec::RuleSet;
+use search_spec::Answer;
+use search_spec::Tally;
+ghost use Prim.Native.Nat.{_≤_};
+ghost use lib.ListN.{length};
+
+// What the lines before leave: the rule set, how many bytes the table that stands has, and the tally.
+struct Standing {
+    set: RuleSet,
+    size: usize,
+    tally: Tally,
+}
+
+// An answer, and the tally updated by it.
+struct Counted {
+    answer: Answer,
+    tally: Tally,
+}
+
+fn print(text: &[u8]) {
+    io::write_all(STDOUT_FILENO, text);
+}
+
+fn print_number(n: u64) {
+    io::print_decimal(STDOUT_FILENO, n);
+}
+
+fn print_byte(n: u8) {
+    print_number(n as u64);
+}
+
+// The smaller of two numbers.
+fn least(a: usize, b: usize) -> usize
+    ensures { λ r. ⌜ r ≤ a ⌝ }
+    ensures { λ r. ⌜ r ≤ b ⌝ }
+{
+    if a < b {
+        return a;
+    }
+    b
+}
+
+// Puts all entries of a text, as `6:7,16:12`, into the table.
+fn put_entries(text: &[u8], table: &mut [u8]) {
+    let mut from: usize = 0;
+    while from < text.len() {
+        let rest = &text[from..];
+        let size = find(rest, 0, rest.len(), b',');
+        let entry = &rest[0..size];
+        let index = number_of(up_to(b':', entry));
+        let value = number_of(behind(b':', entry));
+        put_entry(index, value, table);
+        from += size + 1;
+    }
+}
+
+// 1 where the entry at an index is a mark, so that one of its two bytes is not 255; else 0.
+fn mark(index: usize, table: &[u8]) -> u64
+    ensures { λ r. ⌜ r ≤ 1 ⌝ }
+{
+    if table.len() / 2 <= index {
+        return 0;
+    }
+    if table[2 * index] != 255 {
+        return 1;
+    }
+    if table[2 * index + 1] != 255 {
+        return 1;
+    }
+    0
+}
+
+// How many marks a table has.
+fn print_marks(table: &[u8]) {
+    let mut marks: u64 = 0;
+    for i in 0..table.len() / 2 {
+        marks += mark(i, table);
+    }
+    print_number(marks);
+    print(b" marks");
+}
+
+// Builds a table over bytes of 170.
+fn print_built(set: RuleSet, reach: usize, table: &mut [u8]) {
+    fill_from(table, 0, 170);
+    let outcome = pruning::build_table(set, reach, table);
+    print_byte(outcome);
+    if outcome == 0 {
+        print(b"; ");
+        print_marks(table);
+    }
+}
+
+// The answer to `b`; gives the size of the table that now stands.
+fn built(set: RuleSet, text: &[u8], table: &mut [u8]) -> usize
+    ensures { λ r. ⌜ r ≤ length (now (table .entry)) ⌝ }
+{
+    let reach = number_of(up_to(b' ', text));
+    let size = least(number_of(behind(b' ', text)), table.len());
+    print_built(set, reach, &mut table[0..size]);
+    size
+}
+
+// Makes a table of these entries, the others kept.
+fn print_made(entries: &[u8], table: &mut [u8]) {
+    fill_from(table, 0, 255);
+    put_entries(entries, table);
+    print_marks(table);
+}
+
+// The answer to `t`; gives the size of the table that now stands.
+fn made(text: &[u8], table: &mut [u8]) -> usize
+    ensures { λ r. ⌜ r ≤ length (now (table .entry)) ⌝ }
+{
+    let size = least(number_of(up_to(b' ', text)), table.len());
+    print_made(behind(b' ', text), &mut table[0..size]);
+    size
+}
+
+// The moves of a plan, with commas between.
+fn print_moves(plan: &[u8]) {
+    for i in 0..plan.len() {
+        if i != 0 {
+            print(b",");
+        }
+        print_byte(plan[i]);
+    }
+}
+
+// Whether a part of the plan buffer is 255 throughout.
+fn blank(plan: &[u8]) -> bool {
+    for i in 0..plan.len() {
+        if plan[i] != 255 {
+            return false;
+        }
+    }
+    true
+}
+
+// The numbers of a search's answer.
+fn print_numbers(answer: Answer) {
+    print_byte(answer.outcome);
+    print(b"; cost ");
+    print_number(answer.cost as u64);
+    print(b"; length ");
+    print_byte(answer.length);
+    print(b"; steps ");
+    print_number(answer.steps as u64);
+}
+
+// A plan of this length, and what else is in the plan buffer.
+fn print_plan(length: usize, plan: &[u8]) {
+    print(b"; plan ");
+    print_moves(answers::plan_part(plan, length));
+    let size = least(length, plan.len());
+    if blank(&plan[size..]) {
+        print(b"; rest 255");
+        return;
+    }
+    print(b"; rest not 255");
+}
+
+// The answer of a search, and what it left in the plan buffer.
+fn print_answer(answer: Answer, plan: &[u8]) {
+    print_numbers(answer);
+    print_plan(answer.length as usize, plan);
+}
+
+// A search with a plan buffer over bytes of 170.
+fn print_search(
+    set: RuleSet,
+    reach: usize,
+    table: &[u8],
+    start: &[u8],
+    goal: &[u8],
+    moves: usize,
+    cost: u16,
+    limit: u32,
+    plan: &mut [u8],
+) {
+    fill_from(plan, 0, 170);
+    let answer = search::search(set, reach, table, start, goal, moves, cost, limit, plan);
+    print_answer(answer, plan);
+}
+
+// The counts of a tally, with commas between.
+fn print_tally(tally: Tally) {
+    print_number(tally.solved);
+    print(b",");
+    print_number(tally.unsolvable);
+    print(b",");
+    print_number(tally.limited);
+    print(b",");
+    print_number(tally.refused);
+    print(b",");
+    print_number(tally.steps);
+}
+
+// A search with a tally that is kept in a local.
+fn counted_search(
+    set: RuleSet,
+    reach: usize,
+    table: &[u8],
+    start: &[u8],
+    goal: &[u8],
+    max_moves: usize,
+    max_cost: u16,
+    step_limit: u32,
+    plan: &mut [u8],
+    tally: Tally,
+) -> Counted {
+    let mut local = tally;
+    let answer = tallied_search::search_with_tally(
+        set,
+        reach,
+        table,
+        start,
+        goal,
+        max_moves,
+        max_cost,
+        step_limit,
+        plan,
+        &mut local,
+    );
+    Counted {
+        answer,
+        tally: local,
+    }
+}
+
+// The update of a tally that is kept in a local.
+fn updated(tally: Tally, outcome: u8, steps: u32) -> Tally {
+    let mut local = tally;
+    tally::update(&mut local, outcome, steps);
+    local
+}
+
+// A search that updates the tally, with a plan buffer as it is; gives the tally.
+fn print_tallied_search(
+    set: RuleSet,
+    reach: usize,
+    table: &[u8],
+    start: &[u8],
+    goal: &[u8],
+    moves: usize,
+    cost: u16,
+    limit: u32,
+    plan: &mut [u8],
+    tally: Tally,
+) -> Tally {
+    let counted = counted_search(
+        set,
+        reach,
+        table,
+        start,
+        goal,
+        moves,
+        cost,
+        limit,
+        plan,
+        tally,
+    );
+    let answer = counted.answer;
+    let next = counted.tally;
+    print_answer(answer, plan);
+    print(b"; tally ");
+    print_tally(next);
+    next
+}
+
+// The search for a start and a goal, with the tally or without; the text holds moves, cost, limit and room. Gives the tally.
+fn print_found(
+    set: RuleSet,
+    reach: usize,
+    table: &[u8],
+    start: &[u8],
+    goal: &[u8],
+    text: &[u8],
+    plan: &mut [u8],
+    tally: Tally,
+    counted: bool,
+) -> Tally {
+    let moves = number_of(up_to(b' ', text));
+    let bounds = behind(b' ', text);
+    let cost = least(number_of(up_to(b' ', bounds)), 65535) as u16;
+    let limits = behind(b' ', bounds);
+    let limit = least(number_of(up_to(b' ', limits)), 4294967295) as u32;
+    let room = least(number_of(behind(b' ', limits)), plan.len());
+    let part = &mut plan[0..room];
+    if counted {
+        return print_tallied_search(
+            set,
+            reach,
+            table,
+            start,
+            goal,
+            moves,
+            cost,
+            limit,
+            part,
+            tally,
+        );
+    }
+    print_search(set, reach, table, start, goal, moves, cost, limit, part);
+    tally
+}
+
+// The search of a text with this plan buffer, with the tally or without; gives the tally.
+fn print_query(
+    set: RuleSet,
+    text: &[u8],
+    table: &[u8],
+    plan: &mut [u8],
+    tally: Tally,
+    counted: bool,
+) -> Tally {
+    let mut starts = io::buffer();
+    let mut goals = io::buffer();
+    let reach = number_of(up_to(b' ', text));
+    let states = behind(b' ', text);
+    let start = list_of(up_to(b' ', states), &mut starts);
+    let more = behind(b' ', states);
+    let goal = list_of(up_to(b' ', more), &mut goals);
+    let numbers = behind(b' ', more);
+    print_found(
+        set,
+        reach,
+        table,
+        &starts[0..start],
+        &goals[0..goal],
+        numbers,
+        plan,
+        tally,
+        counted,
+    )
+}
+
+// The answer to `q`: a plan buffer of its own, and the tally as it was.
+fn print_untallied(set: RuleSet, text: &[u8], table: &[u8], tally: Tally) -> Tally {
+    let mut plan = io::buffer();
+    print_query(set, text, table, &mut plan, tally, false)
+}
+
+// The tally of a comma list.
+fn tally_of(text: &[u8]) -> Tally {
+    let solved = number_of(up_to(b',', text)) as u64;
+    let second = behind(b',', text);
+    let unsolvable = number_of(up_to(b',', second)) as u64;
+    let third = behind(b',', second);
+    let limited = number_of(up_to(b',', third)) as u64;
+    let fourth = behind(b',', third);
+    let refused = number_of(up_to(b',', fourth)) as u64;
+    let steps = number_of(behind(b',', fourth)) as u64;
+    Tally {
+        solved,
+        unsolvable,
+        limited,
+        refused,
+        steps,
+    }
+}
+
+// The answer to `c`; gives the tally.
+fn print_set_tally(text: &[u8]) -> Tally {
+    let tally = tally_of(text);
+    print(b"tally ");
+    print_tally(tally);
+    tally
+}
+
+// The answer to `u`; gives the tally.
+fn print_updates(tally: Tally, text: &[u8]) -> Tally {
+    let outcome = least(number_of(up_to(b' ', text)), 255) as u8;
+    let steps = least(number_of(behind(b' ', text)), 4294967295) as u32;
+    print(b"by value ");
+    print_tally(tally::tallied(tally, outcome, steps));
+    let next = updated(tally, outcome, steps);
+    print(b"; by reference ");
+    print_tally(next);
+    next
+}
+
+// The answer to `p`.
+fn print_part(text: &[u8], plan: &[u8]) {
+    let size = number_of(up_to(b' ', text));
+    let room = least(number_of(behind(b' ', text)), plan.len());
+    print(b"part ");
+    print_moves(answers::plan_part(&plan[0..room], size));
+}
+
+// The set of a text, with its outcome printed.
+fn read_set(text: &[u8]) -> RuleSet {
+    let mut file = io::large_buffer();
+    let size = decode(text, &mut file);
+    let reading = reader::read(&file[0..size]);
+    print_byte(reading.outcome);
+    reading.set
+}
+
+// The set with two of its numbers changed, and whether it is valid printed.
+fn changed_set(set: RuleSet, text: &[u8]) -> RuleSet {
+    let positions = number_of(up_to(b',', text));
+    let count = number_of(behind(b',', text));
+    let mut other = set;
+    other.positions = (positions % 256) as u8;
+    other.count = (count % 256) as u8;
+    if validity::is_valid(other) {
+        print(b"valid");
+    } else {
+        print(b"not valid");
+    }
+    other
+}
+
+// The set after a case: of `f` and `s` the one that they give.
+fn next_set(set: RuleSet, verb: u8, text: &[u8]) -> RuleSet {
+    if verb == b'f' {
+        return read_set(text);
+    }
+    if verb == b's' {
+        return changed_set(set, text);
+    }
+    set
+}
+
+// The size of the table that stands after a case: of `b` and `t` the one that they give.
+fn next_size(set: RuleSet, size: usize, verb: u8, text: &[u8], table: &mut [u8]) -> usize {
+    if verb == b'b' {
+        return built(set, text, table);
+    }
+    if verb == b't' {
+        return made(text, table);
+    }
+    size
+}
+
+// The tally after a case, by its letter; any other leaves it.
+fn next_tally(
+    set: RuleSet,
+    tally: Tally,
+    verb: u8,
+    text: &[u8],
+    table: &[u8],
+    plan: &mut [u8],
+) -> Tally {
+    if verb == b'c' {
+        return print_set_tally(text);
+    }
+    if verb == b'u' {
+        return print_updates(tally, text);
+    }
+    if verb == b'p' {
+        print_part(text, plan);
+        return tally;
+    }
+    if verb == b'k' {
+        return print_query(set, text, table, plan, tally, true);
+    }
+    if verb == b'q' {
+        return print_untallied(set, text, table, tally);
+    }
+    tally
+}
+
+// The line, cut at 120 bytes.
+fn print_line(line: &[u8]) {
+    if line.len() <= 120 {
+        print(line);
+        return;
+    }
+    print(&line[0..120]);
+    print(b"..");
+}
+
+// One case, or a heading, on a line of the input; gives what stands for the next line.
+fn run(standing: Standing, line: &[u8], table: &mut [u8], plan: &mut [u8]) -> Standing {
+    if line.len() < 2 {
+        return standing;
+    }
+    print_line(line);
+    if line[0] == b'#' {
+        print(b"\n");
+        return standing;
+    }
+    print(b": ");
+    let set = next_set(standing.set, line[0], &line[2..]);
+    let size = next_size(set, standing.size, line[0], &line[2..], table);
+    let stands = &table[0..least(size, table.len())];
+    let tally = next_tally(set, standing.tally, line[0], &line[2..], stands, plan);
+    print(b"\n");
+    Standing { set, size, tally }
+}
+
+// What stands before the first line: the empty set, no table, and a tally of 0 throughout.
+fn first_standing() -> Standing {
+    let empty = reader::read(b"");
+    let set = empty.set;
+    let tally = tally_of(b"");
+    Standing {
+        set,
+        size: 0,
+        tally,
+    }
+}
+
+// The cases of all lines.
+fn run_lines(input: &[u8], table: &mut [u8], plan: &mut [u8]) {
+    let mut standing = first_standing();
+    let mut from: usize = 0;
+    while from < input.len() {
+        let rest = &input[from..];
+        let size = find(rest, 0, rest.len(), b'\n');
+        standing = run(standing, &rest[0..size], table, plan);
+        from += size + 1;
+    }
+}
+
+fn main() {
+    let mut input = io::large_buffer();
+    let mut table = io::large_buffer();
+    let mut plan = io::buffer();
+    fill_from(&mut plan, 0, 170);
+    let n = io::read_full(STDIN_FILENO, &mut input);
+    run_lines(&input[..n], &mut table, &mut plan);
+}
