@@ -1,4 +1,4 @@
-// What the functions of the reader find at a place of the text: a refusal's number, or with outcome 0 a value and the place after it. Types, a definition, and laws.
+// How the reader goes about it: what its functions find at a place of the text, parts that they promise, and laws.
 use model_spec::Rule;
 use model_spec::RuleSet;
 
