@@ -15,7 +15,7 @@ use Rattle.theory_spec.specs.Lists.{within}
 use Rattle.theory_spec.proofs.ListLaws.{same-test}
 use Rattle.theory_spec.proofs.TestLaws.{within-iff}
 use Rattle.model_spec.specs.States.{isConstant, width}
-use Rattle.model_spec.specs.Validity.{variablePlace, conditionPlaced, effectPlaced}
+use Rattle.model_spec.specs.Validity.{variablePlace, conditionPlaced}
 use Rattle.model_spec.proofs.LoopLaws.{failed, passed}
 use Rattle.files_spec.specs.Reading.{
   Parsed,
