@@ -53,21 +53,8 @@ module _ (set : RuleSet) (query : Query) where
       let whole : searched set query ≡ record { answer = r; plan = plan } = sym (ap₂ (λ r plan. record { answer = r; plan = plan }) a b ∙ e) in
       (whole, subst (SearchMeaning set query) whole (search-meaning set query))
 
-  -- the cost bound and the step limit refuse nothing
-  pub same-refusal : (refusal size : ℕ) → size ≡ query .planSize
-      → refusal ≡ firstRefusal (queryCauses set (asked (query .reach) (query .table) (query .start) (query .goal) (query .maxMoves) 0 0 size)) → refusal ≡ firstRefusal (queryCauses set query)
-  unfolding queryCauses
-  same-refusal refusal size e r = r ∙ ap (λ n. firstRefusal (queryCauses set (asked (query .reach) (query .table) (query .start) (query .goal) (query .maxMoves) 0 0 n))) e
-
-  -- the query as it is explored: with room for just as many moves as it allows
-  abbrev tight : Query
-  tight = asked (query .reach) (query .table) (query .start) (query .goal) (query .maxMoves) (query .maxCost) (query .stepLimit) (query .maxMoves)
-
   module _ (h : firstRefusal (queryCauses set query) ≡ 0) where
-    pub tight-unrefused : NotRefused set tight
-    tight-unrefused = let w = unrefused-iff set query .0 h in not-refused-iff set tight .1 ((w .0 .0, omega arith), w .1)
-
-    module _ (progress : Progress) (explored : Explored set tight progress) where
+    module _ (progress : Progress) (explored : Explored set query progress) where
       abbrev best : Best
       best = progress .best
 
@@ -75,11 +62,9 @@ module _ (set : RuleSet) (query : Query) where
       count = length (visitedBy set query)
 
       steps-are : progress .steps ≡ min count (query .stepLimit)
-      unfolding visitedBy
       steps-are = explored .steps
 
       exceeded-is : progress .exceeded ≡ ltb (query .stepLimit) count
-      unfolding visitedBy
       exceeded-is = explored .exceeded
 
       pub explored-limited : progress .exceeded ≡ true → withoutPlan set query 16 (progress .steps) ≡ searched set query
@@ -87,7 +72,6 @@ module _ (set : RuleSet) (query : Query) where
 
       module _ (under : progress .exceeded ≡ false) where
         best-is : best ≡ asBest (sequenceCost set) (cheapestPlan set query)
-        unfolding visitedBy cheapestPlan plansFor
         best-is = explored .best (ltb-false (query .stepLimit) count (sym exceeded-is ∙ under))
 
         -- a plan is found exactly if there is a cheapest one

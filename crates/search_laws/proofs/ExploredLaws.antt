@@ -5,13 +5,13 @@ use mathlib.Core.Path.{_≡_, refl, sym, ap, ap₂, _∙_, subst, fun-ext}
 use mathlib.Core.Bool.{Bool, false, _&&_}
 use mathlib.Core.Option.{Option, some, none}
 use mathlib.Core.List.{List, [], _∷_, _++_, map}
-use Prim.Native.Nat.{ℕ, _-_, _<_, zero-le}
+use Prim.Native.Nat.{ℕ, _-_, _<_, zero-le, min}
 use native.Mathlib.Omega.{arith}
 use lib.Dec.{leb, eqb}
-use lib.ListN.{length, getD, List·getD-map}
+use lib.ListN.{length, getD, take, List·getD-map}
 use lib.Seq.{take-all}
 use borrow.Author.Tests.{le-leb}
-use Rattle.theory_spec.specs.Lists.{onlyIf, foldOver}
+use Rattle.theory_spec.specs.Lists.{onlyIf, foldOver, padded}
 use Rattle.theory_spec.specs.Sequences.{Sequence, run, costOf, Numbered}
 use Rattle.theory_spec.specs.Indices.{indexOf}
 use Rattle.theory_spec.specs.Plans.{endsIn, reaches}
@@ -20,21 +20,23 @@ use Rattle.theory_spec.proofs.ListLaws.{and-join, never-true}
 use Rattle.theory_spec.proofs.VisitLaws.{explore-same, visited-explore-next, explore-fold}
 use Rattle.theory_spec.proofs.PlanLaws.{best-cheapest}
 use Rattle.model_spec.specs.States.{State, applicable, successor}
+use Rattle.model_spec.specs.Refusals.{firstRefusal}
 use Rattle.model_spec.specs.Rules.{noRule, ruleAt, stepOf, ruleCost, StateOf, sequenceCost}
 use Rattle.model_spec.specs.declared.RuleSet.{RuleSet}
 use Rattle.model_spec.proofs.ValidityLaws.{valid-closed}
 use Rattle.tables_spec.specs.Table.{marked}
 use Rattle.tables_spec.proofs.TableLaws.{accepted-iff, marked-short, accepted-justified}
-use Rattle.search_spec.specs.Query.{Query, startState, meetsGoal, visitedBy, plansFor}
-use Rattle.search_spec.specs.Searched.{NotRefused, WellPosed, cheapestPlan}
+use Rattle.search_spec.specs.Query.{Query, asked, startState, meetsGoal, visitedBy, plansFor}
+use Rattle.search_spec.specs.Searched.{queryCauses, NotRefused, WellPosed, cheapestPlan}
 use Rattle.search_spec.proofs.VisitedLaws.{start-fits-iff}
 use Rattle.search_spec.proofs.PlanVisited.{start-state}
-use Rattle.search_spec.proofs.MeaningLaws.{not-refused-iff}
+use Rattle.search_spec.proofs.MeaningLaws.{not-refused-iff, unrefused-iff}
 use Rattle.search_laws.specs.Lookup.{LooksUp}
 use Rattle.search_laws.specs.Visits.{lentStep, lentCost, mayGoOn, noted, noProgress, visitsFrom, asBest, Explored}
 use Rattle.search_laws.specs.declared.Limits.{Limits}
 use Rattle.search_laws.specs.declared.Progress.{Progress}
 use Rattle.search_laws.proofs.LookupLaws.{look-up-marks}
+use Rattle.search_laws.proofs.LentLaws.{start-fits}
 use Rattle.search_laws.proofs.ProgressLaws.{notedAs, noted-as, noteOf, fold-progress}
 
 -- the rows that are lent have the rules' steps and costs
@@ -48,9 +50,12 @@ lent-cost : (set : RuleSet) → lentCost (map (λ rule. rule .cost) (set .rules)
 unfolding lentCost ruleCost ruleAt
 lent-cost set = fun-ext λ r. List·getD-map (λ rule. rule .cost) (set .rules) (r - 1) noRule
 
-module _ (set : RuleSet) (query : Query) (notRefused : NotRefused set query) (blocked : List ℕ) (looks : LooksUp (set .count) (query .table) blocked) where
+module _ (set : RuleSet) (query : Query) (notRefused : NotRefused set query) (blocked : List ℕ) (looked : LooksUp (min (set .count) 31) (query .table) blocked) where
   judged : WellPosed set query
   judged = not-refused-iff set query .0 notRefused
+
+  looks : LooksUp (set .count) (query .table) blocked
+  looks = let few : min (set .count) 31 ≡ set .count = omega (arith, judged .0 .0 .0 .0 .0 .0 .formed .countLimits) in subst (λ m. LooksUp m (query .table) blocked) few looked
 
   abbrev marks : Sequence → Bool
   marks = marked set (query .reach) (query .table)
@@ -124,9 +129,27 @@ module _ (set : RuleSet) (query : Query) (notRefused : NotRefused set query) (bl
       })
 
   -- the whole search of a query that is not refused: the visits from the empty sequence on, over what is lent
-  pub explored-whole : (limits : Limits) → limits ≡ record { positions = set .positions; count = set .count; reach = query .reach; «max_cost» = query .maxCost; «step_limit» = query .stepLimit }
-      → Explored set query
-      (visitsFrom (map (λ rule. rule .condition) (set .rules)) (map (λ rule. rule .effect) (set .rules)) (map (λ rule. rule .cost) (set .rules)) blocked (query .goal) limits (query .maxMoves) []
-      (startState query) noProgress)
+  pub explored-whole : (conditions effects : List (List ℕ)) (costs : List ℕ) (state : State) (limits : Limits) (found : Progress)
+      → conditions ≡ map (λ rule. rule .condition) (set .rules)
+      → effects ≡ map (λ rule. rule .effect) (set .rules)
+      → costs ≡ map (λ rule. rule .cost) (set .rules)
+      → state ≡ padded 16 0 (take 16 (query .start))
+      → limits ≡ record { positions = set .positions; count = set .count; reach = query .reach; «max_cost» = query .maxCost; «step_limit» = query .stepLimit }
+      → found ≡ visitsFrom conditions effects costs blocked (query .goal) limits (query .maxMoves) [] state noProgress
+      → Explored set query found
   unfolding visitsFrom mayGoOn
-  explored-whole limits e = rw e (subst (Explored set query) (sym (ap₂ visits (lent-step set) (lent-cost set))) visits-explored)
+  explored-whole conditions effects costs state limits found a b c s e is =
+      rw (is, a, b, c, s ∙ start-fits set query notRefused, e) (subst (Explored set query) (sym (ap₂ visits (lent-step set) (lent-cost set))) visits-explored)
+
+-- ── The judgement of the query ───────────────────────────────────────────────────────────────────
+
+-- neither the cost bound nor the step limit refuses anything
+pub same-refusal : (set : RuleSet) (query : Query) (refusal : ℕ)
+    → refusal ≡ firstRefusal (queryCauses set (asked (query .reach) (query .table) (query .start) (query .goal) (query .maxMoves) 0 0 (query .planSize)))
+    → refusal ≡ firstRefusal (queryCauses set query)
+unfolding queryCauses
+same-refusal set query refusal e = e
+
+-- a query without a refusal
+pub unrefused : (set : RuleSet) (query : Query) → firstRefusal (queryCauses set query) ≡ 0 → NotRefused set query
+unrefused set query e = not-refused-iff set query .1 (unrefused-iff set query .0 e)

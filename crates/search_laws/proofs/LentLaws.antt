@@ -1,21 +1,21 @@
--- What the search lends to itself is as the recursion asks, for a query that is not refused: the rules' lines and the start are zero beyond the positions, the look-up has every index, and
--- the empty sequence has been reached.
+-- What the search lends to itself is as the recursion asks, for a query that is not refused: the rules' lines and the start are zero beyond the positions,
+-- and the empty sequence has been reached.
 -- Assumes nothing.
-use mathlib.Core.Path.{_≡_, refl, sym, subst}
+use mathlib.Core.Path.{_≡_, refl, sym, ap, _∙_, subst}
 use mathlib.Core.Logic.{⊎-elim}
 use mathlib.Core.List.{List, map}
-use Prim.Native.Nat.{ℕ, _*_, _-_, _≤_, _<_}
+use Prim.Native.Nat.{ℕ, _-_, _≤_, _<_}
 use native.Mathlib.Omega.{arith}
-use lib.ListN.{length, getD, replicate, List·getD-map, List·getD-eq-default}
+use lib.ListN.{length, getD, take, replicate, List·getD-map, List·getD-eq-default}
+use lib.Seq.{take-all}
+use Rattle.theory_spec.specs.Lists.{padded}
 use Rattle.theory_spec.proofs.TestLaws.{below?}
+use Rattle.model_spec.specs.States.{State}
 use Rattle.model_spec.specs.Rules.{noRule, StateOf}
 use Rattle.model_spec.specs.Validity.{WellFormed, EntryValid}
 use Rattle.model_spec.specs.declared.RuleSet.{RuleSet}
 use Rattle.model_spec.proofs.StateLaws.{width-beyond}
 use Rattle.model_spec.proofs.ValidityLaws.{valid-width-position}
-use Rattle.tables_spec.specs.Table.{sequenceCount, tableEntries}
-use Rattle.tables_spec.proofs.TableLaws.{entries-bound}
-use Rattle.tables_spec.proofs.ReachLaws.{near-entries}
 use Rattle.search_spec.specs.Query.{Query, startState}
 use Rattle.search_spec.specs.Searched.{noMove, NotRefused, WellPosed}
 use Rattle.search_spec.proofs.VisitedLaws.{start-fits-iff}
@@ -53,24 +53,9 @@ module _ (set : RuleSet) (query : Query) (notRefused : NotRefused set query) whe
   valid : WellFormed set
   valid = judged .0 .0 .0 .0 .0 .0 .formed
 
-  -- the start fits a state, and the table the look-up
-  pub start-fits : length (query .start) ≤ 16
-  start-fits = omega (arith, judged .0 .0 .0 .0 .1 .0, valid .positionLimits)
-
-  pub table-fits : (1 ≤ set .count) × (set .count ≤ 31) × (length (query .table) ≤ 2 * sequenceCount (set .count) 3) × (length (query .table) ≤ 2 * 30784)
-  unfolding tableEntries
-  table-fits =
-      let ready = judged .0 .0 .0 .0 .0 in
-      let c = valid .countLimits in (
-        c .0,
-        c .1,
-        omega (arith, ready .1 .1, near-entries set (query .reach) (ready .1 .0 .1)),
-        omega (arith, ready .1 .1, entries-bound set (query .reach) (c .1) (ready .1 .0 .1)),
-      )
-
   -- what stays the same all through
-  pub lent-whole : Lent (map (λ rule. rule .condition) (set .rules)) (map (λ rule. rule .effect) (set .rules)) (query .goal) limits
-  lent-whole =
+  lent-rules : Lent (map (λ rule. rule .condition) (set .rules)) (map (λ rule. rule .effect) (set .rules)) (query .goal) limits
+  lent-rules =
       let goal = judged .0 .0 .0 in
       record {
         positionLimit = valid .positionLimits .1;
@@ -87,13 +72,24 @@ module _ (set : RuleSet) (query : Query) (notRefused : NotRefused set query) whe
             (line-beyond set valid (getD (set .rules) k noRule .condition) (getD (set .rules) k noRule .effect) (w .effectLength) (w .effectEntries));
       }
 
-  -- the empty sequence is reached at the start
-  pub reached-first : (costs : List ℕ) → Reached costs limits (startState query) (replicate 32 noMove) 0 0 (query .maxMoves)
-  reached-first costs =
+  pub lent-whole : (conditions effects : List (List ℕ)) → conditions ≡ map (λ rule. rule .condition) (set .rules) → effects ≡ map (λ rule. rule .effect) (set .rules)
+      → Lent conditions effects (query .goal) limits
+  lent-whole conditions effects a b = rw (a, b) lent-rules
+
+  -- the start fits a state
+  pub start-fits : padded 16 0 (take 16 (query .start)) ≡ startState query
+  start-fits = ap (padded 16 0) (take-all 16 (query .start) (omega (arith, judged .0 .0 .0 .0 .1 .0, valid .positionLimits)))
+
+  -- the empty sequence is reached there
+  pub reached-first : (costs : List ℕ) (state : State) → state ≡ padded 16 0 (take 16 (query .start))
+      → Reached costs limits state (replicate 32 noMove) 0 0 (query .maxMoves)
+  reached-first costs state e =
       record {
         room = omega (arith, judged .0 .0 .1);
         rest = sym (blank-buffer 32);
         rules = tt;
         total = refl;
-        stateEnd = state-beyond set valid (startState query) (start-state set query valid (start-fits-iff set (query .start) .1 (judged .0 .0 .0 .0 .1)));
+        stateEnd =
+            rw (e ∙ start-fits)
+            (state-beyond set valid (startState query) (start-state set query valid (start-fits-iff set (query .start) .1 (judged .0 .0 .0 .0 .1))));
       }

@@ -1,23 +1,23 @@
 -- The look-up holds what the marks of a table say: at the index of the last rules of a sequence, whether one of its short suffixes is marked.
--- With it, what the four functions of the look-up need: the sequence of an index without its first rule, the turns of the loop that fills the look-up, and the index of the last rules.
+-- With it, what the functions of the look-up need: the sequence of an index without its first rule, the turns of the loop that fills the look-up, and the index of the last rules.
 -- Assumes nothing.
 use mathlib.Core.Path.{_≡_, refl, sym, ap, ap₂, _∙_, subst}
 use mathlib.Core.Logic.{_⊎_, inl, inr, _≢_, ⊎-elim}
-use mathlib.Core.Bool.{Bool, true, false, not, cond, _||_}
+use mathlib.Core.Bool.{Bool, true, false, not, cond, _&&_, _||_}
 use mathlib.Core.List.{List, [], _∷_, _++_}
-use Prim.Native.Nat.{ℕ, zero, suc, _+_, _*_, _-_, _/_, _%_, _≤_, _<_}
+use Prim.Native.Nat.{ℕ, zero, suc, _+_, _*_, _-_, _/_, _%_, _≤_, _<_, min}
 use native.Mathlib.Nat.{div-eq-of-lt, div-add-mod', le-div-iff-mul-le, mul-le-mul, mul-le-mul-right}
 use native.Mathlib.Omega.{arith}
-use lib.Dec.{eqb}
-use lib.ListN.{length, getD, set, take, drop, length-append, length-drop, take-append-drop}
-use lib.Seq.{drop-append-le, drop-nil, drop-length, take-suc, getD-set-same, getD-set-other}
-use borrow.Author.Tests.{le-leb, lt-leb, ne-eqb}
+use lib.Dec.{eqb, ltb}
+use lib.ListN.{length, getD, set, take, drop, replicate, length-append, length-drop, take-append-drop}
+use lib.Seq.{drop-append-le, drop-nil, drop-length, take-all, take-suc, getD-set-same, getD-set-other}
+use borrow.Author.Tests.{le-leb, lt-leb, lt-ltb, le-ltb}
 use Rattle.theory_spec.specs.Lists.{any, keepIf}
 use Rattle.theory_spec.specs.Sequences.{Sequence, Numbered, sequences}
 use Rattle.theory_spec.specs.Indices.{indexOf, sequenceOf}
 use Rattle.theory_spec.specs.Recursion.{last, suffixes, shortSuffixes}
-use Rattle.theory_spec.proofs.ListLaws.{same-test, in-getD}
-use Rattle.theory_spec.proofs.TestLaws.{below?, eqb-iff}
+use Rattle.theory_spec.proofs.ListLaws.{zeros-at, in-getD}
+use Rattle.theory_spec.proofs.TestLaws.{below?}
 use Rattle.theory_spec.proofs.SequenceLaws.{numbered-right, of-sequences}
 use Rattle.theory_spec.proofs.IndexLaws.{index-snoc, index-at, sequence-at, index-of-place}
 use Rattle.model_spec.specs.declared.RuleSet.{RuleSet}
@@ -92,7 +92,7 @@ pub look-up-marks : (set : RuleSet) (reach : ℕ) (table blocked : List ℕ) →
     → eqb (getD blocked (indexOf (set .count) (last reach q)) 0) 0 ≡ not (any (marked set reach table) (shortSuffixes reach q))
 unfolding tableEntries
 look-up-marks set reach table blocked near size looks q k =
-    ap (λ n. eqb n 0) (looks (indexOf m l) fits ∙ ap (λ w. cond (suffixMarked m table w) 1 0) (sequence-back m reach l near short numbered))
+    ap (λ n. eqb n 0) (looks (indexOf m l) ∙ ap₂ (λ a w. cond (a && suffixMarked m table w) 1 0) (lt-ltb (indexOf m l) _ fits) (sequence-back m reach l near short numbered))
     ∙ zero-mark (suffixMarked m table l)
     ∙ ap not (suffix-marks set reach table l short numbered ∙ ap (any (marked set reach table)) (last-suffixes reach q))
   where
@@ -108,25 +108,11 @@ look-up-marks set reach table blocked near size looks q k =
     numbered : Numbered m l
     numbered = last-numbered m reach q k
 
-    fits : indexOf m l < length table / 2
-    fits = omega (arith, index-at m reach l short numbered .0, count-sequences m reach, size)
-
--- ── The bytes of a mark ──────────────────────────────────────────────────────────────────────────
-
-module _ (table : List ℕ) (i : ℕ) (low : getD table (2 * i) 0 ≤ 255) where
-  -- an entry whose low byte is not 255 is a mark
-  pub mark-low : getD table (2 * i) 0 ≢ 255 → true ≡ not (eqb (entryAt table i) kept)
-  unfolding entryAt
-  mark-low e = sym (ap not (ne-eqb (entryAt table i) kept (λ k. omega arith)))
-
-  -- else the high byte decides
-  pub mark-high : getD table (2 * i) 0 ≡ 255 → not (eqb (getD table (2 * i + 1) 0) 255) ≡ not (eqb (entryAt table i) kept)
-  unfolding entryAt
-  mark-high e =
-      ap not
-      (same-test (eqb (getD table (2 * i + 1) 0) 255) (eqb (entryAt table i) kept)
-      (λ h. eqb-iff (entryAt table i) kept .1 (omega (arith, eqb-iff (getD table (2 * i + 1) 0) 255 .0 h)))
-      (λ h. eqb-iff (getD table (2 * i + 1) 0) 255 .1 (omega (arith, eqb-iff (entryAt table i) kept .0 h))))
+    fits : indexOf m l < min (length table / 2) (sequenceCount m 3)
+    fits =
+        let inside = index-at m reach l short numbered .0 in
+        let near-inside = index-at m 3 l (omega (arith, short)) numbered .0 in
+        omega (arith, inside, near-inside, count-sequences m reach, count-sequences m 3, size)
 
 -- ── A sequence without its first rule ────────────────────────────────────────────────────────────
 
@@ -183,11 +169,20 @@ tail-two m (suc k) some h many = let same : suc k - 1 ≡ k = omega arith in rw 
 abbrev pub LooksUpTo : ℕ → List ℕ → List ℕ → ℕ → Type 0
 LooksUpTo m table blocked n = (i : ℕ) → i < n → getD blocked i 0 ≡ cond (suffixMarked m table (sequenceOf m 3 i)) 1 0
 
--- the first place holds a zero
-pub look-up-start : (m : ℕ) (table blocked : List ℕ) → getD blocked 0 0 ≡ 0 → LooksUpTo m table blocked 1
+-- and only zeros from there on, and from a number on
+abbrev pub BlankFrom : List ℕ → ℕ → ℕ → Type 0
+BlankFrom blocked n end = (i : ℕ) → min n end ≤ i → getD blocked i 0 ≡ 0
+
+-- the first place of a blank look-up holds what it should
+pub look-up-start : (m : ℕ) (table : List ℕ) (size : ℕ) → LooksUpTo m table (replicate size 0) 1
 unfolding suffixMarked
-look-up-start m table blocked e zero h = e
-look-up-start m table blocked e (suc i) h = absurd (omega arith)
+look-up-start m table size zero h = zeros-at size 0
+look-up-start m table size (suc i) h = absurd (omega arith)
+
+-- there is a rule where there is a place but the first
+pub some-rule : (m i end : ℕ) → 1 ≤ i → i < end → end ≤ sequenceCount m 3 → 1 ≤ m
+some-rule zero i end some h k = absurd (omega (arith, count-next 0 2))
+some-rule (suc m) i end some h k = omega arith
 
 module _ (m : ℕ) (table : List ℕ) where
   -- a suffix of a sequence is the sequence, or one of what is left without its first rule
@@ -244,6 +239,24 @@ look-up-more m table blocked i tail block fits some room looks is less write j h
         let e : i ≡ j = omega arith in
         subst (λ k. getD (set blocked i block) k 0 ≡ cond (suffixMarked m table (sequenceOf m 3 k)) 1 0) e (getD-set-same blocked i block 0 room ∙ written)
 
+-- the other places stay blank
+pub blank-more : (blocked : List ℕ) (i end block : ℕ) → i < end → BlankFrom blocked i end → BlankFrom (set blocked i block) (i + 1) end
+blank-more blocked i end block h blank j k = getD-set-other blocked i j block 0 (λ e. omega (arith, e)) ∙ blank j (omega arith)
+
+-- after the last turn it is the look-up
+pub look-up-whole : (m : ℕ) (table blocked : List ℕ) (i end : ℕ) → end ≡ min (length table / 2) (sequenceCount m 3) → end ≤ i
+    → LooksUpTo m table blocked i → BlankFrom blocked i end → LooksUp m table blocked
+look-up-whole m table blocked i end is all looks blank j = ⊎-elim entry none (below? j end)
+  where
+    what : Bool → ℕ
+    what a = cond (a && suffixMarked m table (sequenceOf m 3 j)) 1 0
+
+    entry : j < end → getD blocked j 0 ≡ what (ltb j (min (length table / 2) (sequenceCount m 3)))
+    entry h = looks j (omega arith) ∙ sym (ap what (lt-ltb j (min (length table / 2) (sequenceCount m 3)) (omega (arith, is))))
+
+    none : end ≤ j → getD blocked j 0 ≡ what (ltb j (min (length table / 2) (sequenceCount m 3)))
+    none h = blank j (omega arith) ∙ sym (ap what (le-ltb j (min (length table / 2) (sequenceCount m 3)) (omega (arith, is))))
+
 -- ── The place of the last rules of a plan ────────────────────────────────────────────────────────
 
 -- no rule is asked for
@@ -276,19 +289,26 @@ last-two m n d plan h l fits =
     let before = last-one m (n - 1) (d - 1) plan (omega arith) (omega arith) (omega arith) (last-none m (n - 1 - 1) (take (d - 1 - 1) plan) (omega arith)) in
     sym (newest-apart m n d plan (omega arith) (omega arith) fits ∙ ap (λ i. i * m + getD plan (d - 1) 0) (sym before ∙ ap (λ k. getD plan k 0) e))
 
--- two bytes and at most 31 rules lead to a small place
-pub places-small : (a b m : ℕ) → a ≤ 255 → b ≤ 255 → m ≤ 31 → (a * m ≤ 7905) × ((a * m + b) * m ≤ 252960)
+-- bytes lead to a small place
+pub places-small : (a b m : ℕ) → a ≤ 255 → b ≤ 255 → m ≤ 255 → (a * m ≤ 65025) × ((a * m + b) * m ≤ 16646400)
 places-small a b m h k l =
-    let one : a * m ≤ 7905 = mul-le-mul h l in
-    let two : a * m + b ≤ 8160 = omega arith in
+    let one : a * m ≤ 65025 = mul-le-mul h l in
+    let two : a * m + b ≤ 65280 = omega arith in
     (one, mul-le-mul two l)
 
+-- no more moves are taken than there are
+pub take-within : (n : ℕ) (plan : List ℕ) → take (min n (length plan)) plan ≡ take n plan
+take-within n plan = ⊎-elim (λ h. let e : min n (length plan) ≡ n = omega arith in ap (λ k. take k plan) e)
+    (λ h. take-all (min n (length plan)) plan (omega arith) ∙ sym (take-all n plan h)) (below? n (length plan))
+
 -- with rule 1 behind them, and with each other rule, they have a place among the sequences of at most `reach` rules
-pub place-fits : (m reach : ℕ) (q : Sequence) → 1 ≤ reach → Numbered m q → (i place : ℕ) → i ≡ indexOf m (last (reach - 1) q) → place ≡ i * m + 1
+pub place-fits : (m reach : ℕ) (q : Sequence) (place : ℕ) → 1 ≤ reach → reach ≤ 3 → Numbered m q → place ≡ indexOf m (last (min (reach - 1) 2) q) * m + 1
     → (place ≡ indexOf m (last (reach - 1) q) * m + 1) × (place + m ≤ sequenceCount m reach)
-place-fits m zero q h k i place e v = absurd (omega arith)
-place-fits m (suc n) q h k i place e v =
+place-fits m zero q place h near k e = absurd (omega arith)
+place-fits m (suc n) q place h near k e =
     let n′ = suc n - 1 in
+    let least : min n′ 2 ≡ n′ = omega arith in
+    let is : place ≡ indexOf m (last n′ q) * m + 1 = e ∙ ap (λ i. indexOf m (last i q) * m + 1) least in
     let w = index-at m n (last n′ q) (omega (arith, last-length n′ q)) (last-numbered m n′ q k) .0 in
-    let less : suc i ≤ sequenceCount m n = omega (arith, w, e, count-sequences m n) in
-    (v ∙ ap (λ j. j * m + 1) e, omega (arith, v, mul-le-mul-right m less, count-next m n))
+    let less : suc (indexOf m (last n′ q)) ≤ sequenceCount m n = omega (arith, w, count-sequences m n) in
+    (is, omega (arith, is, mul-le-mul-right m less, count-next m n))

@@ -1,15 +1,15 @@
 -- The look-up that spares the search a look at each segment: one byte for each index, whether a suffix of its sequence is marked. No promise of a public call mentions this file.
 use mathlib.Core.Path.{_≡_}
-use mathlib.Core.Bool.{Bool, not, cond}
+use mathlib.Core.Bool.{Bool, not, cond, _&&_}
 use mathlib.Core.List.{List}
-use Prim.Native.Nat.{ℕ, _/_, _<_}
-use lib.Dec.{eqb}
+use Prim.Native.Nat.{ℕ, _/_, min}
+use lib.Dec.{eqb, ltb}
 use lib.ListN.{length, getD}
 use Rattle.theory_spec.specs.Lists.{any}
 use Rattle.theory_spec.specs.Sequences.{Sequence}
 use Rattle.theory_spec.specs.Indices.{indexOf, sequenceOf}
 use Rattle.theory_spec.specs.Recursion.{suffixes}
-use Rattle.tables_spec.specs.Table.{kept, entryAt}
+use Rattle.tables_spec.specs.Table.{sequenceCount, kept, entryAt}
 
 -- the entry at the index of a sequence of rules 1 to m is a mark
 unfoldable pub markedAt : ℕ → List ℕ → Sequence → Bool
@@ -19,6 +19,7 @@ markedAt m table q = not (eqb (entryAt table (indexOf m q)) kept)
 unfoldable pub suffixMarked : ℕ → List ℕ → Sequence → Bool
 suffixMarked m table q = any (markedAt m table) (suffixes q)
 
--- the look-up of a table: at each index 1 if a suffix of its sequence is marked, else 0
+-- the look-up of a table of at most three rules: at each index 1 if the table has an entry there and a suffix of its sequence is marked, else 0
 abbrev pub LooksUp : ℕ → List ℕ → List ℕ → Type 0
-LooksUp m table blocked = (i : ℕ) → i < length table / 2 → getD blocked i 0 ≡ cond (suffixMarked m table (sequenceOf m 3 i)) 1 0
+LooksUp m table blocked =
+    (i : ℕ) → getD blocked i 0 ≡ cond (ltb i (min (length table / 2) (sequenceCount m 3)) && suffixMarked m table (sequenceOf m 3 i)) 1 0

@@ -1,6 +1,7 @@
 -- How the search goes about it, over what it lends to itself: the rules' lines and costs, the look-up, the goal and the limits. No promise of a public call mentions this file;
 -- the laws in proofs/ equate it with the definitions of `search_spec`.
 use mathlib.Core.Path.{_≡_}
+use mathlib.Core.Logic.{_≢_}
 use mathlib.Core.Bool.{Bool, true, false, not, cond, _&&_, _||_}
 use mathlib.Core.Option.{Option, some, none}
 use mathlib.Core.List.{List, [], _∷_}
@@ -14,12 +15,14 @@ use Rattle.theory_spec.specs.Plans.{reaches}
 use Rattle.theory_spec.specs.Recursion.{last, exploreWith, best, leastCost}
 use Rattle.model_spec.specs.States.{State, valuesOf, applicable, successor}
 use Rattle.model_spec.specs.Rules.{stepOf, ruleCost, sequenceCost}
+use Rattle.model_spec.specs.Refusals.{firstRefusal}
 use Rattle.model_spec.specs.declared.RuleSet.{RuleSet}
 use Rattle.search_spec.specs.Query.{Query, startState, meetsGoal, visitedBy}
-use Rattle.search_spec.specs.Searched.{noMove, cheapestPlan}
+use Rattle.search_spec.specs.Searched.{noMove, queryCauses, cheapestPlan}
 use Rattle.search_laws.specs.declared.Best.{Best}
 use Rattle.search_laws.specs.declared.Progress.{Progress}
 use Rattle.search_laws.specs.declared.Limits.{Limits}
+use Rattle.search_laws.specs.declared.Exploration.{Exploration}
 
 -- ── One rule more ────────────────────────────────────────────────────────────────────────────────
 
@@ -126,3 +129,9 @@ pub record Explored (set : RuleSet) (query : Query) (progress : Progress) : Type
   pub looked : progress .best ≡ asBest (sequenceCost set) (best (ruleCost set) (reaches (stepOf set) (startState query) (meetsGoal (query .goal))) none (take (query .stepLimit) (visitedBy set query)))
   pub best : length (visitedBy set query) ≤ query .stepLimit → progress .best ≡ asBest (sequenceCost set) (cheapestPlan set query)
   pub floor : progress .floor ≡ leastCost (ruleCost set) 65535 (drop (query .stepLimit) (visitedBy set query))
+
+-- what a query comes to: the first cause for which it is refused, if one holds; if none does, the progress of the whole search, else none
+pub record Explores (set : RuleSet) (query : Query) (exploration : Exploration) : Type 0 where
+  pub refused : exploration .refusal ≡ firstRefusal (queryCauses set query)
+  pub explored : exploration .refusal ≡ 0 → Explored set query (exploration .progress)
+  pub blank : exploration .refusal ≢ 0 → exploration .progress ≡ noProgress

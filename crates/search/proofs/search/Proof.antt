@@ -11,15 +11,16 @@ use Rattle.model_spec.proofs.BufferLaws.{filled-whole}
 use Rattle.search_spec.specs.Query.{Query, asked}
 use Rattle.search_spec.specs.Searched.{queryCauses, noMove}
 use Rattle.search_spec.proofs.OutcomeLaws.{withoutPlan, searched-refused}
-use Rattle.search_laws.proofs.AnswerLaws.{leftWith, answers, same-refusal, tight-unrefused, explored-limited, explored-unsolvable, explored-room, explored-solved}
+use Rattle.search_laws.specs.Visits.{Explored, Explores}
+use Rattle.search_laws.proofs.AnswerLaws.{leftWith, answers, explored-limited, explored-unsolvable, explored-room, explored-solved}
 use Rattle.search.proofs.search.Statement.{statement}
 use Rattle.search.proofs.search.Tie as tie
 
 fill-from-requires : tie.Need-fill-from-requires
 fill-from-requires c κs = search needs
 
-query-refusal-requires : tie.Need-query-refusal-requires
-query-refusal-requires c κs = search needs
+explored-requires : tie.Need-explored-requires
+explored-requires c κs = search needs
 
 -- the query that is asked
 abbrev queryOf : tie.Start → Query
@@ -27,22 +28,23 @@ queryOf s =
     let a = s .args in
     asked (a .reach) (a .table .now) (a .start .now) (a .goal .now) (a .max-moves) (a .max-cost) (a .step-limit) (length (a .plan .now))
 
-abbrev startOf : tie.After-query-refusal → tie.Start
+abbrev startOf : tie.After-explored → tie.Start
 startOf c = c .before .before .before .before .before .before .before .before .before
 
 -- the buffer is blank
-blank : (c : tie.After-query-refusal) → c .before .before .before .fill-from .last .0 ≡ replicate (length (startOf c .args .plan .now)) noMove
+blank : (c : tie.After-explored) → c .before .before .before .fill-from .last .0 ≡ replicate (length (startOf c .args .plan .now)) noMove
 blank c = c .before .before .before .fill-from .ensures ∙ filled-whole noMove (startOf c .args .plan .now)
 
 -- of the length that it had
-sized : (c : tie.After-query-refusal) → length (c .before .before .before .fill-from .last .0) ≡ length (startOf c .args .plan .now)
+sized : (c : tie.After-explored) → length (c .before .before .before .fill-from .last .0) ≡ length (startOf c .args .plan .now)
 sized c = ap length (blank c) ∙ length-replicate (length (startOf c .args .plan .now)) noMove
 
--- and the query is judged
-refusal : (c : tie.After-query-refusal) → c .query-refusal .result ≡ firstRefusal (queryCauses (startOf c .args .set) (queryOf (startOf c)))
-refusal c =
-    let s = startOf c in
-    same-refusal (s .args .set) (queryOf s) (c .query-refusal .result) (length (c .before .before .before .fill-from .last .0)) (sized c) (c .query-refusal .ensures)
+-- and the query is judged, and explored
+explores : (c : tie.After-explored) → Explores (startOf c .args .set) (queryOf (startOf c)) (c .explored .result)
+explores c =
+    let a = startOf c .args in
+    subst (λ n. Explores (a .set) (asked (a .reach) (a .table .now) (a .start .now) (a .goal .now) (a .max-moves) (a .max-cost) (a .step-limit) n) (c .explored .result)) (sized c)
+    (c .explored .ensures)
 
 without-plan-requires : tie.Need-without-plan-requires
 without-plan-requires c κs = search needs
@@ -52,19 +54,22 @@ same-length c = search needs
 
 returns : tie.Need-returns
 returns c =
-    let judged = c .before .before in
+    let judged = c .before .before .before in
     let s = startOf judged in
-    let e = refusal judged in
+    let e = explores judged .refused in
     let refused = searched-refused (s .args .set) (queryOf s) (λ k. c .before .if1 .taken (e ∙ k)) in
-    answers (s .args .set) (queryOf s) _ _ (withoutPlan (s .args .set) (queryOf s) (judged .query-refusal .result) 0) (c .without-plan .ensures) (blank judged)
+    answers (s .args .set) (queryOf s) _ _ (withoutPlan (s .args .set) (queryOf s) (judged .explored .result .refusal) 0) (c .without-plan .ensures) (blank judged)
     (ap (λ n. withoutPlan (s .args .set) (queryOf s) n 0) e ∙ sym refused)
 
 -- past the first return, the query is not refused
-unrefused : (c : tie.Else1) → firstRefusal (queryCauses (startOf (c .before) .args .set) (queryOf (startOf (c .before)))) ≡ 0
-unrefused c = sym (refusal (c .before)) ∙ c .if1 .left
+abbrev judgedAt : tie.Else1 → tie.After-explored
+judgedAt c = c .before .before
 
-explored-requires : tie.Need-explored-requires
-explored-requires c κs = tight-unrefused (startOf (c .before) .args .set) (queryOf (startOf (c .before))) (unrefused c)
+unrefused : (c : tie.Else1) → firstRefusal (queryCauses (startOf (judgedAt c) .args .set) (queryOf (startOf (judgedAt c)))) ≡ 0
+unrefused c = sym (explores (judgedAt c) .refused) ∙ c .if1 .left
+
+visited : (c : tie.Else1) → let s = startOf (judgedAt c) in Explored (s .args .set) (queryOf s) (judgedAt c .explored .result .progress)
+visited c = explores (judgedAt c) .explored (c .if1 .left)
 
 without-plan-requires-2 : tie.Need-without-plan-requires-2
 without-plan-requires-2 c κs = search needs
@@ -74,10 +79,11 @@ same-length-2 c = search needs
 
 returns-2 : tie.Need-returns-2
 returns-2 c =
-    let visits = c .before .before in
-    let s = startOf (visits .before .before) in
-    let found = explored-limited (s .args .set) (queryOf s) (unrefused (visits .before)) (visits .explored .result) (visits .explored .ensures) (c .before .if2 .taken) in
-    answers (s .args .set) (queryOf s) _ _ _ (c .without-plan2 .ensures) (blank (visits .before .before)) found
+    let posed = c .before .before .before in
+    let judged = judgedAt posed in
+    let s = startOf judged in
+    let found = explored-limited (s .args .set) (queryOf s) (unrefused posed) (judged .explored .result .progress) (visited posed) (c .before .if2 .taken) in
+    answers (s .args .set) (queryOf s) _ _ _ (c .without-plan2 .ensures) (blank judged) found
 
 without-plan-requires-3 : tie.Need-without-plan-requires-3
 without-plan-requires-3 c κs = search needs
@@ -88,26 +94,30 @@ same-length-3 c = search needs
 returns-3 : tie.Need-returns-3
 returns-3 c =
     let under = c .before .before .before .before in
-    let visits = under .before in
-    let s = startOf (visits .before .before) in
-    let progress = visits .explored .result in
+    let posed = under .before .before in
+    let judged = judgedAt posed in
+    let s = startOf judged in
+    let progress = judged .explored .result .progress in
     let none = not-true (progress .best .found) (c .before .if3 .taken) in
-    let found = explored-unsolvable (s .args .set) (queryOf s) (unrefused (visits .before)) progress (visits .explored .ensures) (under .if2 .left) none in
-    answers (s .args .set) (queryOf s) _ _ _ (c .without-plan3 .ensures) (blank (visits .before .before)) found
+    let found = explored-unsolvable (s .args .set) (queryOf s) (unrefused posed) progress (visited posed) (under .if2 .left) none in
+    answers (s .args .set) (queryOf s) _ _ _ (c .without-plan3 .ensures) (blank judged) found
 
 -- past the third, a plan is found
-plan-found : (c : tie.Else3) → c .before .before .before .before .explored .result .best .found ≡ true
-plan-found c = not-false (c .before .before .before .before .explored .result .best .found) (c .if3 .left)
+abbrev underAt : tie.Else3 → tie.Else2
+underAt c = c .before .before .before
+
+plan-found : (c : tie.Else3) → judgedAt (underAt c .before .before) .explored .result .progress .best .found ≡ true
+plan-found c = not-false (judgedAt (underAt c .before .before) .explored .result .progress .best .found) (c .if3 .left)
 
 put-moves-requires : tie.Need-put-moves-requires
 put-moves-requires c κs =
     let solved = c .before .before .before in
-    let under = solved .before .before .before in
-    let visits = under .before in
-    let judged = visits .before .before in
+    let under = underAt solved in
+    let posed = under .before .before in
+    let judged = judgedAt posed in
     let s = startOf judged in
-    let progress = visits .explored .result in
-    let room = explored-room (s .args .set) (queryOf s) (unrefused (visits .before)) progress (visits .explored .ensures) (under .if2 .left) (plan-found solved) in
+    let progress = judged .explored .result .progress in
+    let room = explored-room (s .args .set) (queryOf s) (unrefused posed) progress (visited posed) (under .if2 .left) (plan-found solved) in
     (room .0, subst (λ n. progress .best .length ≤ n) (sym (sized judged)) (room .1))
 
 same-length-4 : tie.Need-same-length-4
@@ -117,13 +127,13 @@ returns-4 : tie.Need-returns-4
 returns-4 c =
     let put = c .before .before in
     let solved = put .before .before .before .before in
-    let under = solved .before .before .before in
-    let visits = under .before in
-    let judged = visits .before .before in
+    let under = underAt solved in
+    let posed = under .before .before in
+    let judged = judgedAt posed in
     let s = startOf judged in
-    let progress = visits .explored .result in
+    let progress = judged .explored .result .progress in
     let buffer = judged .before .before .before .fill-from .last .0 in
-    let found = explored-solved (s .args .set) (queryOf s) (unrefused (visits .before)) progress (visits .explored .ensures) (under .if2 .left) (plan-found solved) buffer (blank judged) in
+    let found = explored-solved (s .args .set) (queryOf s) (unrefused posed) progress (visited posed) (under .if2 .left) (plan-found solved) buffer (blank judged) in
     answers (s .args .set) (queryOf s) _ _ (leftWith (progress .best) (progress .steps) buffer) refl (put .put-moves .ensures) found
 
 pub search-spec : {M : Type 1} → statement M
@@ -131,11 +141,10 @@ search-spec =
     tie.close
     (tie.spec
     fill-from-requires
-    query-refusal-requires
+    explored-requires
     without-plan-requires
     same-length
     returns
-    explored-requires
     without-plan-requires-2
     same-length-2
     returns-2

@@ -1,10 +1,10 @@
--- `search::visits::visit_from` meets its contract, by a measure: each call of itself has one move less to come.
+-- `visits::visit_from` meets its contract, by a measure: each call of itself has one move less to come.
 -- The invariant: what the rules from place k on make of the progress is what all rules make of the progress that the sequence itself leaves; and the longer plan lacks only its last move.
 -- Assumes nothing.
 use mathlib.Core.Path.{_≡_, refl, sym, _∙_}
 use mathlib.Core.Logic.{⊎-elim}
 use mathlib.Core.List.{[], _∷_, _++_}
-use Prim.Native.Nat.{ℕ, _+_, _-_, _≤_, _<_}
+use Prim.Native.Nat.{ℕ, _+_, _*_, _-_, _≤_, _<_}
 use native.Mathlib.Omega.{arith}
 use borrow.Author.Needs.{needs}
 use borrow.Fn.Kinds.{In}
@@ -12,20 +12,24 @@ use borrow.Fn.PlainCycle.{Measures, is, falls, and}
 use lib.ListN.{take, set}
 use lib.Seq.{set-set}
 use Rattle.theory_spec.specs.Lists.{padded}
+use Rattle.theory_spec.specs.Indices.{indexOf}
+use Rattle.theory_spec.specs.Recursion.{last}
+use Rattle.tables_spec.specs.Table.{sequenceCount}
 use Rattle.tables_spec.proofs.CountLaws.{count-bound}
 use Rattle.search_spec.specs.Searched.{noMove}
 use Rattle.search_laws.specs.Visits.{noted}
+use Rattle.search_laws.proofs.LookupLaws.{place-fits}
 use Rattle.search_laws.proofs.PlanArrayLaws.{plan-more, noted-plan}
 use Rattle.search_laws.proofs.VisitLoopLaws.{goes-cheap, restFrom, visits-last, whole, whole-exceeded, loop-end, turn-taken, turn-left, plan-next, reached-next}
-use Rattle.search.proofs.lookup.first_place.Reads as first-place-reads
+use Rattle.lookup.proofs.first_place.Reads as first-place-reads
 use Rattle.steps.proofs.goes_on.Reads as goes-on-reads
 use Rattle.plans.proofs.noted.Reads as noted-reads
 use Rattle.steps.proofs.put_after.Reads as put-after-reads
-use Rattle.search.proofs.visits.visit_from.Reads as visit-from
-use Rattle.search.proofs.visits.visit_from.Kinds as visit-from-kinds
-use Rattle.search.proofs.visits.+visit_from.Lts-visit_from as lts
-use Rattle.search.proofs.visits.+visit_from.{statement}
-use Rattle.search.proofs.visits.+visit_from.Tie.{close}
+use Rattle.visits.proofs.visit_from.Reads as visit-from
+use Rattle.visits.proofs.visit_from.Kinds as visit-from-kinds
+use Rattle.visits.proofs.+visit_from.Lts-visit_from as lts
+use Rattle.visits.proofs.+visit_from.{statement}
+use Rattle.visits.proofs.+visit_from.Tie.{close}
 
 -- the measure: how many moves are to come
 abbrev μ-visit-from : Measures 7 visit-from-kinds.ps ℕ
@@ -87,25 +91,38 @@ module _ (t : ℕ) where
       let noted = c .before in
       whole-exceeded _ _ _ _ _ _ _ _ _ _ _ _ (noted .before .if1 .left) (noted .before .before .before .pre .1 .1 .total) (noted-first noted) (c .if2 .taken)
 
+  cast-first-place : lts.Need-cast-first-place (calls t) (at t) visit-from.Post Inv μ
+  cast-first-place c = record { fits = omega (arith, c .before .before .before .before .before .pre .1 .0 .countLimits) }
+
   first-place-requires : lts.Need-first-place-requires (calls t) (at t) visit-from.Post Inv μ
-  first-place-requires c κs =
-      let asked = c .before .before .before .before .pre .1 in
-      let lent = asked .0 in
-      (lent .reachLimits .0, lent .reachLimits .1, lent .countLimits .0, lent .countLimits .1, omega (arith, asked .1 .room), asked .1 .rules)
+  first-place-requires c κs = search needs
 
   loop-holds : lts.Need-loop-holds (calls t) (at t) visit-from.Post Inv μ
   loop-holds c =
-      let before = c .before .before .before .before .before in
+      let before = c .before .before .before .before .before .before in
       let start = before .before .before in
       (omega arith, refl, λ number. plan-more 32 noMove _ _ (start .pre .1 .1 .rest) number (omega (arith, start .pre .1 .1 .room, before .if1 .left)))
 
-  -- the function's start, from the loop's head
+  -- from the loop's head: where the sequence itself is noted, and the function's start
+  abbrev noting : lts.At-loop (calls t) (at t) visit-from.Post Inv μ → lts.After-noted2 (calls t) (at t) visit-from.Post Inv μ
+  noting l = l .before .before .before .before .before .before
+
   abbrev start : lts.At-loop (calls t) (at t) visit-from.Post Inv μ → lts.Start (calls t) (at t) visit-from.Post Inv μ
-  start l = l .before .before .before .before .before .before .before .before
+  start l = noting l .before .before .before
+
+  -- the place of the sequence with rule 1 behind it, and room for the other rules
+  first : (l : lts.At-loop (calls t) (at t) visit-from.Post Inv μ)
+      → let s = start l .args in
+      let place = l .before .before .before .first-place .result in
+      (place ≡ indexOf (s .limits .count) (last (s .limits .reach - 1) (take (s .depth) (s .plan .now))) * s .limits .count + 1)
+      × (place + s .limits .count ≤ sequenceCount (s .limits .count) (s .limits .reach))
+  first l =
+      let asked = start l .pre .1 in
+      place-fits _ _ (take (start l .args .depth) (start l .args .plan .now)) _ (asked .0 .reachLimits .0) (asked .0 .reachLimits .1) (asked .1 .rules) (l .before .before .before .first-place .ensures)
 
   -- in the loop the plan has room for one more move
   deeper : (l : lts.At-loop (calls t) (at t) visit-from.Post Inv μ) → start l .args .depth < 32
-  deeper l = omega (arith, start l .pre .1 .1 .room, l .before .before .before .before .before .before .if1 .left)
+  deeper l = omega (arith, start l .pre .1 .1 .room, noting l .before .if1 .left)
 
   -- a turn's place is one of the 31 rows
   near : (c : lts.Then3 (calls t) (at t) visit-from.Post Inv μ) → c .before .before .loop .k < 31
@@ -127,7 +144,7 @@ module _ (t : ℕ) where
   placed c =
       let l = c .before .before in
       let lent = start l .pre .1 .0 in
-      omega (arith, c .if3 .taken, l .before .before .before .first-place .ensures .1, count-bound _ _ (lent .countLimits .1) (lent .reachLimits .1))
+      omega (arith, c .if3 .taken, first l .1, count-bound _ _ (lent .countLimits .1) (lent .reachLimits .1))
 
   add-goes-on : lts.Need-add-goes-on (calls t) (at t) visit-from.Post Inv μ
   add-goes-on c = omega (arith, placed (c .before))
@@ -168,10 +185,10 @@ module _ (t : ℕ) where
   cast-visit-from : lts.Need-cast-visit-from (calls t) (at t) visit-from.Post Inv μ
   cast-visit-from c =
       let went = c .before .before .before .before .before in
-      record { fits = goes-cheap _ _ _ _ _ _ (went .before .goes-on .ensures) (went .if4 .taken) (went .before .before .before .before .before .before .struct-known .given .1 .1 .1 .0 .fits) }
+      record { fits = goes-cheap _ _ _ _ _ _ (went .before .goes-on .ensures) (went .if4 .taken) (went .before .before .before .before .before .before .struct-known2 .given .1 .1 .1 .0 .fits) }
 
   sub-visit-from : lts.Need-sub-visit-from (calls t) (at t) visit-from.Post Inv μ
-  sub-visit-from c = omega (arith, c .before .before .before .before .before .before .before .before .before .before .before .before .before .before .before .before .before .before .if1 .left)
+  sub-visit-from c = omega (arith, noting (c .before .before .before .before .before .before .before .before .before .before .before .before) .before .if1 .left)
 
   visit-from-requires : lts.Need-visit-from-requires (calls t) (at t) visit-from.Post Inv μ
   visit-from-requires c κs =
@@ -180,7 +197,7 @@ module _ (t : ℕ) where
       let pre = start l .pre in
       let lent = pre .1 .0 in
       let reached = pre .1 .1 in
-      let more = l .before .before .before .before .before .before .if1 .left in (
+      let more = noting l .before .if1 .left in (
         omega (arith, pre .0, more),
         (
           lent,
@@ -199,17 +216,16 @@ module _ (t : ℕ) where
       let turn = c .before .before .before .before .before in
       let l = turn .before .before in
       let asked = start l .pre .1 in
-      let first = l .before .before .before .first-place .ensures .0 in
       ⊎-elim
       (λ w. (
         omega (arith, turn .if3 .taken),
-        turn-taken _ _ _ _ _ _ _ _ _ first (asked .1 .total) (asked .0 .reachLimits .0) _ _ _ _ _ (turn .if3 .taken) (l .loop .inv .1) (asked .0) (asked .1 .stateEnd) _
+        turn-taken _ _ _ _ _ _ _ _ _ (first l .0) (asked .1 .total) (asked .0 .reachLimits .0) _ _ _ _ _ (turn .if3 .taken) (l .loop .inv .1) (asked .0) (asked .1 .stateEnd) _
             (c .before .goes-on .ensures) (w .0 .taken) _ (plan-next _ _ _ _ _ _ _ (asked .1) _ _ (l .loop .inv .2 _)) _ (w .3 .ensures) (w .6 .result) _ (w .7) (w .6 .ensures),
         λ number. rw (w .8) (set-set (l .loop .longer) (start l .args .depth) (l .loop .k + 1) number ∙ l .loop .inv .2 number),
       ))
       (λ w. (
         omega (arith, turn .if3 .taken),
-        rw (w .1) (turn-left _ _ _ _ _ _ _ _ _ first (asked .1 .total) (asked .0 .reachLimits .0) _ _ _ _ _ (turn .if3 .taken) (l .loop .inv .1) (asked .0) (asked .1 .stateEnd) _
+        rw (w .1) (turn-left _ _ _ _ _ _ _ _ _ (first l .0) (asked .1 .total) (asked .0 .reachLimits .0) _ _ _ _ _ (turn .if3 .taken) (l .loop .inv .1) (asked .0) (asked .1 .stateEnd) _
             (c .before .goes-on .ensures) (w .0 .left)),
         λ number. rw (w .2) (l .loop .inv .2 number),
       ))
@@ -218,7 +234,7 @@ module _ (t : ℕ) where
   returns-3 : lts.Need-returns-3 (calls t) (at t) visit-from.Post Inv μ
   returns-3 c =
       let l = c .before .before in
-      let noted = l .before .before .before .before .before in
+      let noted = noting l in
       sym (loop-end _ _ _ _ _ _ _ _ _ _ _ (c .if3 .left)) ∙ l .loop .inv .1 ∙ whole _ _ _ _ _ _ _ _ _ _ _ _ (noted .before .if1 .left) (start l .pre .1 .1 .total) (noted-first noted)
 
 pub +visit-from-spec : {M : Type 1} → statement M
@@ -229,6 +245,7 @@ pub +visit-from-spec : {M : Type 1} → statement M
     (returns t)
     (noted-requires-2 t)
     (returns-2 t)
+    (cast-first-place t)
     (first-place-requires t)
     (loop-holds t)
     (shared-slice-read-total t)

@@ -1,12 +1,12 @@
--- `search::lookup::tail_index` meets its contract: the quotient tells how many rules the sequence has.
+-- `lookup::tail_index` meets its contract: the quotient tells how many rules the sequence has.
 -- Assumes nothing.
 use Prim.Native.Nat.{_-_, _/_}
 use native.Mathlib.Nat.{mod-lt, mul-le-mul}
 use native.Mathlib.Omega.{arith}
 use borrow.Author.Needs.{needs}
 use Rattle.search_laws.proofs.LookupLaws.{tail-none, tail-one, tail-two}
-use Rattle.search.proofs.lookup.tail_index.Statement.{statement}
-use Rattle.search.proofs.lookup.tail_index.Tie as tie
+use Rattle.lookup.proofs.tail_index.Statement.{statement}
+use Rattle.lookup.proofs.tail_index.Tie as tie
 
 sub-before : tie.Need-sub-before
 sub-before c = search needs
