@@ -7,6 +7,7 @@
 //   what the buffer then holds
 // - `s` read the text, spoil the set in each of some ways and write it: the outcomes, a digit each
 // The answers that `stdout` holds were written by hand from document 01.
+use bytes::scan::find;
 use libc::STDIN_FILENO;
 use libc::STDOUT_FILENO;
 use model_spec::Rule;
@@ -349,26 +350,12 @@ fn run(line: &[u8]) {
     print(b"\n");
 }
 
-// The length of the first line of a text.
-fn line_length(text: &[u8]) -> usize
-    ensures { λ r. ⌜ r ≤ length (now (text .entry)) ⌝ }
-{
-    let mut i: usize = 0;
-    while i < text.len() {
-        if text[i] == b'\n' {
-            return i;
-        }
-        i += 1;
-    }
-    i
-}
-
 // The cases of all lines.
 fn run_lines(input: &[u8]) {
     let mut from: usize = 0;
     while from < input.len() {
         let rest = &input[from..];
-        let size = line_length(rest);
+        let size = find(rest, 0, rest.len(), b'\n');
         run(&rest[0..size]);
         from += size + 1;
     }

@@ -14,7 +14,8 @@ use Rattle.cases_laws.specs.Texts.{lineFed, behind, largest, withDigit, 
 
 -- one byte more of a rule file
 pub decoded-more : (old input : List ℕ) (i : ℕ) (l : List ℕ) (x : ℕ) → i < length old → i < length input
-    → l ≡ paste old 0 (map lineFed input) i → x ≡ lineFed (getD input i 0) → set l i x ≡ paste old 0 (map lineFed input) (i + 1)
+    → l ≡ paste old 0 (map lineFed input) i → x ≡ lineFed (getD input i 0)
+    → set l i x ≡ paste old 0 (map lineFed input) (i + 1)
 decoded-more old input i l x h k e v =
     let new = map lineFed input in
     let front : 0 + i ≡ i = omega arith in
@@ -23,7 +24,8 @@ decoded-more old input i l x h k e v =
     (subst (λ j. set (paste old 0 new i) j (getD new i (lineFed 0)) ≡ paste old 0 new (suc i)) front turn)
 
 -- the first place in the whole of a text
-pub place-whole : (byte : ℕ) (text : List ℕ) (r : ℕ) → r ≡ 0 + indexOf byte (slice 0 (length text) text) → r ≡ indexOf byte text
+pub place-whole : (byte : ℕ) (text : List ℕ) (r : ℕ) → r ≡ 0 + indexOf byte (slice 0 (length text) text)
+    → r ≡ indexOf byte text
 unfolding slice
 place-whole byte text r e = omega (arith, e, ap (indexOf byte) (take-length text))
 
@@ -41,7 +43,9 @@ pub behind-none : (byte : ℕ) (text : List ℕ) (n : ℕ) → n ≡ indexOf byt
     → take (length text - n) (drop n text) ≡ behind byte text
 unfolding behind
 behind-none byte text n e h =
-    tail text n ∙ drop-of-length-le text {i = n} h ∙ sym (drop-of-length-le text {i = suc (indexOf byte text)} (omega arith))
+    tail text n
+    ∙ drop-of-length-le text {i = n} h
+    ∙ sym (drop-of-length-le text {i = suc (indexOf byte text)} (omega arith))
 
 -- a digit more
 pub digit-fits : (byte number : ℕ) → 10 * number + byte % 16 ≤ largest → 10 * number + byte % 16 ≡ withDigit byte number

@@ -5,6 +5,8 @@
 // - `m` the macro of these moves: the outcome, and condition, effect and cost in the notation of a rule file; of a refusal whether the macro is zeros throughout
 // - `w` whether the moves before ` by ` are redundant with those after it
 // The answers that `stdout` holds were written by hand from document 01 and from the source documents.
+use bytes::scan::find;
+use cases_common::decode;
 use libc::STDIN_FILENO;
 use libc::STDOUT_FILENO;
 use macros_spec::Macro;
@@ -24,39 +26,6 @@ fn print_number(n: u64) {
 
 fn print_byte(n: u8) {
     print_number(n as u64);
-}
-
-// Puts a text into a buffer, as far as there is room, with a line feed for each `/`; gives its length.
-fn decode(input: &[u8], text: &mut [u8]) -> usize
-    ensures { λ r. ⌜ r ≤ length (now (text .entry)) ⌝ }
-{
-    let mut count: usize = 0;
-    while count < text.len() {
-        if input.len() <= count {
-            return count;
-        }
-        let mut byte = input[count];
-        if byte == b'/' {
-            byte = b'\n';
-        }
-        text[count] = byte;
-        count += 1;
-    }
-    count
-}
-
-// The first place of a byte in a text; the text's length where there is none.
-fn place_of(byte: u8, text: &[u8]) -> usize
-    ensures { λ r. ⌜ r ≤ length (now (text .entry)) ⌝ }
-{
-    let mut i: usize = 0;
-    while i < text.len() {
-        if text[i] == byte {
-            return i;
-        }
-        i += 1;
-    }
-    i
 }
 
 // A number below 256 with one digit more; a comma leaves it as it is.
@@ -233,7 +202,7 @@ fn print_redundancy(set: RuleSet, moves: &[u8], witness: &[u8])
 fn print_compared(set: RuleSet, text: &[u8]) {
     let mut moves = [0u8; 64];
     let mut witness = [0u8; 64];
-    let size = place_of(b' ', text);
+    let size = find(text, 0, text.len(), b' ');
     let rest = &text[size..];
     if rest.len() < 4 {
         return;
@@ -316,7 +285,7 @@ fn run_lines(input: &[u8]) {
     let mut from: usize = 0;
     while from < input.len() {
         let rest = &input[from..];
-        let size = place_of(b'\n', rest);
+        let size = find(rest, 0, rest.len(), b'\n');
         set = run(set, &rest[0..size]);
         from += size + 1;
     }

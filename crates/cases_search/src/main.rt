@@ -1,23 +1,27 @@
-// Runs the search and the plan handed back on the cases of standard input and prints what they give. A case is a line: a
-// letter, a space and a text. Each line is printed again, cut at 120 bytes, with the answer after it. A line that begins
-// with `#` is a heading. A number too large for 64 bits counts as the largest that is not.
+// Runs the search and the plan handed back on the cases of standard input and prints what they give. A case is a
+// line: a letter, a space and a text. Each line is printed again, cut at 120 bytes, with the answer after it. A line
+// that begins with `#` is a heading. A number too large for 64 bits counts as the largest that is not.
 // - `f` read the text, in which `/` stands for a line feed: the outcome. Its set is the one of the lines that follow
 // - `s` change the set's number of positions and its number of rules to these two: whether it is valid
-// - `b` a reach and a size: fill that many bytes with 170 and build a table in them, which then stands: the outcome and
-//   how many marks it has. A size above 65,536 counts as 65,536, here and for `t`
-// - `t` a size and entries, as `6:7,16:12`: the table that stands is that many bytes of 255, with these values at these
-//   indices: how many marks it has
-// - `q` a reach, a start, a goal, a move bound, a cost bound, a step limit and a room: search with the table that stands
-//   and a plan buffer of `room` bytes, each 170 before: outcome, cost, length and steps; the plan's moves, as `plan_part`
-//   hands them back; whether every other byte of the buffer is 255. Start and goal have commas between their bytes, `-`
-//   is one of no bytes. A byte above 255 counts as 255, a cost bound above 65,535, a step limit above 4,294,967,295 and a
-//   room above 4,096 as these numbers
-// A board of three by three cells has a position for each cell, row by row, that holds 0 for a blank (blanks are alike) or the number of a tile. Its 24 rules are in the order of their names
-// in source 000, by row, column and direction, as in `cases_tables`: 1 is 11D, 5 is 12R, 9 is 21R, 19 is 31U.
-// The answers that `stdout` holds were worked out from document 01 by a script that runs every sequence within the bounds, pruned or not, counts those without a marked segment and keeps the first
-// of the cheapest that lead to the goal. Where there are too many (32 moves of E and of the arrows), it keeps for each length and state the cheapest sequence that leads there, the first of these,
-// and counts the unpruned ones by state, last rules and cost; elsewhere both ways were compared. Marks were tested in every state or, where there are too many, in one whose free entries are all
-// different. P1 to P5, P9 and P10 are as document 01 gives them, and the numbers of steps that a heading gives were worked out by hand.
+// - `b` a reach and a size: fill that many bytes with 170 and build a table in them, which then stands: the outcome
+//   and how many marks it has. A size above 65,536 counts as 65,536, here and for `t`
+// - `t` a size and entries, as `6:7,16:12`: the table that stands is that many bytes of 255, with these values at
+//   these indices: how many marks it has
+// - `q` a reach, a start, a goal, a move bound, a cost bound, a step limit and a room: search with the table that
+//   stands and a plan buffer of `room` bytes, each 170 before: outcome, cost, length and steps; the plan's moves, as
+//   `plan_part` hands them back; whether every other byte of the buffer is 255. Start and goal have commas between
+//   their bytes, `-` is one of no bytes. A byte above 255 counts as 255, a cost bound above 65,535, a step limit
+//   above 4,294,967,295 and a room above 4,096 as these numbers
+// A board of three by three cells has a position for each cell, row by row, that holds 0 for a blank (blanks are
+// alike) or the number of a tile. Its 24 rules are in the order of their names in source 000, by row, column and
+// direction, as in `cases_tables`: 1 is 11D, 5 is 12R, 9 is 21R, 19 is 31U.
+// The answers that `stdout` holds were worked out from document 01 by a script that runs every sequence within the
+// bounds, pruned or not, counts those without a marked segment and keeps the first of the cheapest that lead to the
+// goal. Where there are too many (32 moves of E and of the arrows), it keeps for each length and state the cheapest
+// sequence that leads there, the first of these, and counts the unpruned ones by state, last rules and cost;
+// elsewhere both ways were compared. Marks were tested in every state or, where there are too many, in one whose
+// free entries are all different. P1 to P5, P9 and P10 are as document 01 gives them, and the numbers of steps that
+// a heading gives were worked out by hand.
 use buffers::fill_from;
 use bytes::scan::find;
 use cases_buffers::list_of;

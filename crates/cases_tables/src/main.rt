@@ -13,6 +13,13 @@
 // The answers that `stdout` holds were worked out from document 01 and the source documents by a script that runs every sequence in every state; where there are too many states (boards,
 // pancakes, 16 positions of 16 values), in states that tell its entries apart, or by hand. Those of the small tables, and the sums where there is a pattern, were worked out by hand as well.
 use buffers::fill_from;
+use bytes::scan::find;
+use cases_buffers::put_byte;
+use cases_buffers::put_entry;
+use cases_common::behind;
+use cases_common::decode;
+use cases_common::number_of;
+use cases_common::up_to;
 use libc::STDIN_FILENO;
 use libc::STDOUT_FILENO;
 use model_spec::RuleSet;
@@ -31,82 +38,6 @@ fn print_byte(n: u8) {
     print_number(n as u64);
 }
 
-// Puts a text into a buffer, as far as there is room, with a line feed for each `/`; gives its length.
-fn decode(input: &[u8], text: &mut [u8]) -> usize
-    ensures { λ r. ⌜ r ≤ length (now (text .entry)) ⌝ }
-{
-    let mut count: usize = 0;
-    while count < text.len() {
-        if input.len() <= count {
-            return count;
-        }
-        let mut byte = input[count];
-        if byte == b'/' {
-            byte = b'\n';
-        }
-        text[count] = byte;
-        count += 1;
-    }
-    count
-}
-
-// The first place of a byte in a text; the text's length where there is none.
-fn place_of(byte: u8, text: &[u8]) -> usize
-    ensures { λ r. ⌜ r ≤ length (now (text .entry)) ⌝ }
-{
-    let mut i: usize = 0;
-    while i < text.len() {
-        if text[i] == byte {
-            return i;
-        }
-        i += 1;
-    }
-    i
-}
-
-// A number with one digit more; the largest one where that is too large.
-fn with_digit(number: usize, digit: u8) -> usize {
-    if 1844674407370955161 < number {
-        return 18446744073709551615;
-    }
-    let tens = 10 * number;
-    let ones = (digit % 16) as usize;
-    if 18446744073709551615 - tens < ones {
-        return 18446744073709551615;
-    }
-    tens + ones
-}
-
-// The number of a text.
-fn number_of(text: &[u8]) -> usize {
-    let mut number: usize = 0;
-    for i in 0..text.len() {
-        number = with_digit(number, text[i]);
-    }
-    number
-}
-
-// A number, and the place where the text after it starts.
-struct Field {
-    number: usize,
-    rest: usize,
-}
-
-// The number that a text holds up to a byte; the text after it starts behind that byte.
-fn field_of(byte: u8, text: &[u8]) -> Field
-    ensures { λ r. ⌜ r .rest ≤ length (now (text .entry)) ⌝ }
-{
-    let size = place_of(byte, text);
-    let number = number_of(&text[0..size]);
-    if text.len() <= size {
-        return Field { number, rest: size };
-    }
-    Field {
-        number,
-        rest: size + 1,
-    }
-}
-
 // Whether a table is zeros throughout.
 fn zeros(table: &[u8]) -> bool {
     for i in 0..table.len() {
@@ -117,32 +48,15 @@ fn zeros(table: &[u8]) -> bool {
     true
 }
 
-// Puts a byte at a place of the table, if it has that place.
-fn put_byte(place: usize, value: usize, table: &mut [u8]) {
-    if place < table.len() {
-        table[place] = (value % 256) as u8;
-    }
-}
-
-// Puts an entry at an index, low byte first.
-fn put_entry(index: usize, value: usize, table: &mut [u8]) {
-    if 32768 <= index {
-        return;
-    }
-    put_byte(2 * index, value, table);
-    put_byte(2 * index + 1, value / 256, table);
-}
-
 // Puts one value, as `6:7`, into the table: an entry at its index or a byte at its place.
 fn put(entries: bool, text: &[u8], table: &mut [u8]) {
-    let at = field_of(b':', text);
-    let rest = at.rest;
-    let value = number_of(&text[rest..]);
+    let at = number_of(up_to(b':', text));
+    let value = number_of(behind(b':', text));
     if entries {
-        put_entry(at.number, value, table);
+        put_entry(at, value, table);
         return;
     }
-    put_byte(at.number, value, table);
+    put_byte(at, value, table);
 }
 
 // Puts all values of a text into the table.
@@ -150,7 +64,7 @@ fn put_all(entries: bool, text: &[u8], table: &mut [u8]) {
     let mut from: usize = 0;
     while from < text.len() {
         let rest = &text[from..];
-        let size = place_of(b',', rest);
+        let size = find(rest, 0, rest.len(), b',');
         put(entries, &rest[0..size], table);
         from += size + 1;
     }
@@ -333,24 +247,22 @@ fn print_changed(set: RuleSet, reach: usize, bytes: &[u8], table: &mut [u8]) {
 fn run_table(set: RuleSet, verb: u8, text: &[u8], table: &mut [u8])
     requires { ⌜ length (now table) ≤ 65536 ⌝ }
 {
-    let reach = field_of(b' ', text);
-    let start = reach.rest;
-    let fields = &text[start..];
-    let field = field_of(b' ', fields);
-    let size = field.number;
-    let rest = field.rest;
+    let reach = number_of(up_to(b' ', text));
+    let fields = behind(b' ', text);
+    let size = number_of(up_to(b' ', fields));
+    let values = behind(b' ', fields);
     if table.len() < size {
         return;
     }
     if verb == b'b' {
-        print_built(set, reach.number, &mut table[0..size]);
+        print_built(set, reach, &mut table[0..size]);
         return;
     }
     if verb == b'c' {
-        print_checked(set, reach.number, &fields[rest..], &mut table[0..size]);
+        print_checked(set, reach, values, &mut table[0..size]);
         return;
     }
-    print_changed(set, reach.number, &fields[rest..], &mut table[0..size]);
+    print_changed(set, reach, values, &mut table[0..size]);
 }
 
 // The sequence of an index, and its entry.
@@ -379,11 +291,10 @@ fn read_set(text: &[u8]) -> RuleSet {
 
 // The set with two of its numbers changed, and whether it is valid printed.
 fn changed_set(set: RuleSet, text: &[u8]) -> RuleSet {
-    let positions = field_of(b',', text);
-    let rest = positions.rest;
-    let count = number_of(&text[rest..]);
+    let positions = number_of(up_to(b',', text));
+    let count = number_of(behind(b',', text));
     let mut other = set;
-    other.positions = (positions.number % 256) as u8;
+    other.positions = (positions % 256) as u8;
     other.count = (count % 256) as u8;
     if validity::is_valid(other) {
         print(b"valid");
@@ -448,7 +359,7 @@ fn run_lines(input: &[u8], table: &mut [u8])
     let mut from: usize = 0;
     while from < input.len() {
         let rest = &input[from..];
-        let size = place_of(b'\n', rest);
+        let size = find(rest, 0, rest.len(), b'\n');
         set = run(set, &rest[0..size], table);
         from += size + 1;
     }

@@ -1,15 +1,17 @@
-// Runs the search with a tally, the tally alone and the plan handed back on the cases of standard input and prints what
-// they give. The lines are as in `cases_search`, with the letters `f`, `s`, `b`, `t` and `q` as there, and four more:
-// - `c` five counts with commas between, plans found, no plan, step limit exceeded, refused and steps: they are the tally
-//   that then stands: the tally. All five are 0 before the first line
-// - `k` the same as for `q`: a search that updates the tally that stands, with the first `room` bytes of the plan buffer
-//   that stands: what `q` gives, and the tally. This buffer has 4,096 bytes, each 170 before the first line; each `k`
-//   finds it as the last one left it, and `q` does not use it
-// - `u` an outcome and a number of steps: the tally that stands after a query with these: once by value, once where it is
-//   kept. An outcome above 255 counts as 255, steps above 4,294,967,295 as that number
-// - `p` a length and a room: the plan handed back for that length from the first `room` bytes of the plan buffer that
-//   stands: its bytes
-// The answers that `stdout` holds were worked out from document 01 by scripts, those of searches as in `cases_search`.
+// Runs the search with a tally, the tally alone and the plan handed back on the cases of standard input and prints
+// what they give. The lines are as in `cases_search`, with the letters `f`, `s`, `b`, `t` and `q` as there, and four
+// more:
+// - `c` five counts with commas between, plans found, no plan, step limit exceeded, refused and steps: they are the
+//   tally that then stands: the tally. All five are 0 before the first line
+// - `k` the same as for `q`: a search that updates the tally that stands, with the first `room` bytes of the plan
+//   buffer that stands: what `q` gives, and the tally. This buffer has 4,096 bytes, each 170 before the first line;
+//   each `k` finds it as the last one left it, and `q` does not use it
+// - `u` an outcome and a number of steps: the tally that stands after a query with these: once by value, once where
+//   it is kept. An outcome above 255 counts as 255, steps above 4,294,967,295 as that number
+// - `p` a length and a room: the plan handed back for that length from the first `room` bytes of the plan buffer
+//   that stands: its bytes
+// The answers that `stdout` holds were worked out from document 01 by scripts, those of searches as in
+// `cases_search`.
 use buffers::fill_from;
 use bytes::scan::find;
 use cases_buffers::list_of;
@@ -290,7 +292,8 @@ fn print_tallied_search(
     next
 }
 
-// The search for a start and a goal, with the tally or without; the text holds moves, cost, limit and room. Gives the tally.
+// The search for a start and a goal, with the tally or without; the text holds moves, cost, limit and room. Gives the
+// tally.
 fn print_found(
     set: RuleSet,
     reach: usize,

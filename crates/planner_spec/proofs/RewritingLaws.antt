@@ -119,15 +119,17 @@ module _ (text : List ℕ) (room : ℕ) where
         (equal? (answer .outcome) 0)
 
   -- packed, the answer can be taken apart
-  pub rewrite-packed : (answer : Written) (buffer : List ℕ) → answer ≡ rewritten text room → RewriteMeaning text room answer buffer → (r : ℕ)
-      → r ≡ packedLength (answer .outcome) (answer .length % lengthLimit)
-      → (r ≡ packedRewritten text room) × RewriteMeaning text room (record { outcome = r % 256; length = r / 256 }) buffer
+  pub rewrite-packed : (answer : Written) (buffer : List ℕ) → answer ≡ rewritten text room
+      → RewriteMeaning text room answer buffer → (r : ℕ) → r ≡ packedLength (answer .outcome) (answer .length % lengthLimit)
+      → (r ≡ packedRewritten text room)
+      × RewriteMeaning text room (record { outcome = r % 256; length = r / 256 }) buffer
   unfolding packedRewritten
   rewrite-packed answer buffer e means r p =
       let byte : answer .outcome < 256 = omega (arith, rewrite-outcome means) in
       let short : answer .length < lengthLimit = omega (arith, rewrite-length means) in
       let low = packs-outcome (answer .outcome) (answer .length) r byte short p in
       let rest = packs-length (answer .outcome) (answer .length) r byte short p in (
-        packs (answer .outcome) (answer .length) r byte short p ∙ ap (λ (x : Written). packedLength (x .outcome) (x .length)) e,
+        packs (answer .outcome) (answer .length) r byte short p
+            ∙ ap (λ (x : Written). packedLength (x .outcome) (x .length)) e,
         subst (λ x. RewriteMeaning text room x buffer) (λ i. record { outcome = sym low i; length = sym rest i }) means,
       )

@@ -80,7 +80,8 @@ module _ (text : List ℕ) (query : Query) where
   text-found found e = (e, subst (TextSearchMeaning text query) e text-search-meaning)
 
   -- packed, the answer can be taken apart
-  pub search-packed : query .stepLimit < 4294967296 → (found : Searched) → searchedText text query ≡ found → (r : ℕ) → r ≡ packed (found .answer)
+  pub search-packed : query .stepLimit < 4294967296 → (found : Searched) → searchedText text query ≡ found
+      → (r : ℕ) → r ≡ packed (found .answer)
       → (r ≡ packedSearch text query)
       × (found .plan ≡ searchedText text query .plan)
       × TextSearchMeaning text query (record { answer = unpacked r; plan = found .plan })
@@ -89,4 +90,5 @@ module _ (text : List ℕ) (query : Query) where
       let same = e ∙ ap (λ (x : Searched). packed (x .answer)) (sym f) in
       let plan = ap (λ (x : Searched). x .plan) (sym f) in
       let answer = ap unpacked same ∙ unpacked-packed (searchedText text query .answer) (entry-fits fits) in
-      (same, plan, subst (TextSearchMeaning text query) (λ i. record { answer = sym answer i; plan = sym plan i }) text-search-meaning)
+      let means = TextSearchMeaning text query in
+      (same, plan, subst means (λ i. record { answer = sym answer i; plan = sym plan i }) text-search-meaning)

@@ -42,7 +42,8 @@ fn put_macro(m: Macro, out: &mut [u8])
 pub fn macro_of(text: &[u8], moves: &[u8], out: &mut [u8]) -> u8
     ensures { λ r. ⌜
         (r ≡ textMacro (now (text .entry)) (now (moves .entry)) .outcome)
-        × (now (out .exit) ≡ macroBuffer (length (now (out .entry))) (textMacro (now (text .entry)) (now (moves .entry)) .result))
+        × (now (out .exit)
+        ≡ macroBuffer (length (now (out .entry))) (textMacro (now (text .entry)) (now (moves .entry)) .result))
         × TextMacroMeaning (now (text .entry)) (now (moves .entry)) (length (now (out .entry))) r (now (out .exit)) ⌝ }
 {
     let file = read(text);

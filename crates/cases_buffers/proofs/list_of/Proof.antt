@@ -1,4 +1,4 @@
--- `cases_buffers::list_of` meets its contract. The invariant: the buffer keeps its length, and no more is put in than fits.
+-- `cases_buffers::list_of` meets its contract. The invariant: the buffer keeps its length, and no more is put than fits.
 -- Assumes nothing.
 use mathlib.Core.Path.{_≡_}
 use Prim.Native.Nat.{_≤_, _-_}

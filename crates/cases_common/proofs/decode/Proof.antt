@@ -15,7 +15,10 @@ use Rattle.cases_common.proofs.decode.Tie as tie
 
 abbrev Inv-loop : tie.InvT-loop
 Inv-loop input text₀ count₀ text count =
-    (length text ≡ length text₀) × (count ≤ length text₀) × (count ≤ length input) × (text ≡ paste text₀ 0 (map lineFed input) count)
+    (length text ≡ length text₀)
+    × (count ≤ length text₀)
+    × (count ≤ length input)
+    × (text ≡ paste text₀ 0 (map lineFed input) count)
 
 abbrev μ-loop : tie.MeasureT-loop
 μ-loop input text₀ count₀ text count = length text₀ - count

@@ -1,8 +1,6 @@
 -- `cases_common::line_fed` meets its contract: by whether the byte is `/`.
 -- Assumes nothing.
-use mathlib.Core.Path.{sym, _∙_}
 use borrow.Author.Tests.{eq-eqb, ne-eqb}
-use borrow.Author.Needs.{needs}
 use Rattle.cases_laws.specs.Texts.{lineFed}
 use Rattle.cases_common.proofs.line_fed.Statement.{statement}
 use Rattle.cases_common.proofs.line_fed.Tie as tie

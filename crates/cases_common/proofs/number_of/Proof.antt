@@ -1,9 +1,9 @@
--- `cases_common::number_of` meets its contract. The invariant: the bytes that are left make the number of what was read.
+-- `cases_common::number_of` meets its contract. The invariant: what is left of the text makes the number of what was read.
 -- Assumes nothing.
-use mathlib.Core.Path.{_≡_, refl, sym, ap, subst, _∙_}
+use mathlib.Core.Path.{_≡_, refl, ap, _∙_}
 use Prim.Native.Nat.{_+_, _-_}
 use native.Mathlib.Omega.{arith}
-use lib.ListN.{length, drop, getD}
+use lib.ListN.{length, drop}
 use borrow.Author.Needs.{needs}
 use Rattle.theory_spec.specs.Lists.{foldOver}
 use Rattle.cases_laws.specs.Texts.{withDigit, numberOf}
@@ -37,7 +37,8 @@ loop-again : tie.Need-loop-again Inv-loop μ-loop
 loop-again c =
     let text = c .before .before .before .before .before .args .text .now in
     let l = c .before .before .before .loop in
-    ap (λ n. foldOver withDigit n (drop (l .i + 1) text)) (c .with-digit .ensures) ∙ number-more text (l .i) (l .number) (l .inv) (omega arith)
+    ap (λ n. foldOver withDigit n (drop (l .i + 1) text)) (c .with-digit .ensures)
+    ∙ number-more text (l .i) (l .number) (l .inv) (omega arith)
 
 returns : tie.Need-returns Inv-loop μ-loop
 returns c =

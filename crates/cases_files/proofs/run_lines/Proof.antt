@@ -24,8 +24,8 @@ part-rest-start c = search needs
 part-rest-end : tie.Need-part-rest-end Inv-loop μ-loop
 part-rest-end c = search needs
 
-line-length-requires : tie.Need-line-length-requires Inv-loop μ-loop
-line-length-requires c κs = search needs
+find-requires : tie.Need-find-requires Inv-loop μ-loop
+find-requires c κs = search needs
 
 sub-run : tie.Need-sub-run Inv-loop μ-loop
 sub-run c = search needs
@@ -64,7 +64,7 @@ run-lines-spec =
     sub-rest
     part-rest-start
     part-rest-end
-    line-length-requires
+    find-requires
     sub-run
     part-run-start
     part-run-end

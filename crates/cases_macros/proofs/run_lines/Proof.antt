@@ -30,8 +30,8 @@ part-rest-start c = search needs
 part-rest-end : tie.Need-part-rest-end Inv-loop μ-loop
 part-rest-end c = search needs
 
-place-of-requires : tie.Need-place-of-requires Inv-loop μ-loop
-place-of-requires c κs = search needs
+find-requires : tie.Need-find-requires Inv-loop μ-loop
+find-requires c κs = search needs
 
 sub-run : tie.Need-sub-run Inv-loop μ-loop
 sub-run c = search needs
@@ -72,7 +72,7 @@ run-lines-spec =
     sub-rest
     part-rest-start
     part-rest-end
-    place-of-requires
+    find-requires
     sub-run
     part-run-start
     part-run-end

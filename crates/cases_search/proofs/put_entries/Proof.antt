@@ -1,4 +1,4 @@
--- `cases_search::put_entries` meets its contract. Each turn leaves less of the text. The invariant: the table keeps its length.
+-- `cases_search::put_entries` meets its contract. Each turn leaves less of the text, and the table its length.
 -- Assumes nothing.
 use mathlib.Core.Path.{_≡_}
 use Prim.Native.Nat.{_-_}

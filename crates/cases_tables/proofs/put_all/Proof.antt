@@ -25,8 +25,8 @@ part-rest-start c = search needs
 part-rest-end : tie.Need-part-rest-end Inv-loop μ-loop
 part-rest-end c = search needs
 
-place-of-requires : tie.Need-place-of-requires Inv-loop μ-loop
-place-of-requires c κs = search needs
+find-requires : tie.Need-find-requires Inv-loop μ-loop
+find-requires c κs = search needs
 
 sub-put : tie.Need-sub-put Inv-loop μ-loop
 sub-put c = search needs
@@ -68,7 +68,7 @@ put-all-spec =
     sub-rest
     part-rest-start
     part-rest-end
-    place-of-requires
+    find-requires
     sub-put
     part-put-start
     part-put-end

@@ -60,7 +60,7 @@ use Rattle.tallied_search.proofs.search_with_tally.Met as g-thm
 use Rattle.cases_tally.specs.declared.Counted.{Counted}
 use Rattle.cases_tally.proofs.Counted as K
 use Rattle.cases_tally.proofs.Counted.Laws as K′
-use Rattle.cases_tally.proofs.counted_search.Key.{name as #cases-search·counted-search}
+use Rattle.cases_tally.proofs.counted_search.Key.{name as #cases-tally·counted-search}
 use Rattle.cases_tally.proofs.counted_search as f
 use Rattle.cases_tally.proofs.counted_search.Statement as stated
 use Rattle.cases_tally.proofs.counted_search.Code as code
@@ -286,6 +286,6 @@ pub counted-search-spec : {M : Type 1} → stated.statement M
 unfolding code.routine tablesOf
 counted-search-spec 𝓤 H 𝓜 𝓖 𝓡 =
     entered 𝓤 H (tripleOf 𝓤 H (𝓖 .A) f.signature (f.spec 𝓤 H (𝓖 .A) (𝓜 .mem) (𝓡 .run)))
-    (tables 𝓤 H 𝓜 𝓡 code.env .C) (tables 𝓤 H 𝓜 𝓡 code.env .Λ) #cases-search·counted-search code.function (code.unfolded 𝓤 H 𝓜 𝓡)
+    (tables 𝓤 H 𝓜 𝓡 code.env .C) (tables 𝓤 H 𝓜 𝓡 code.env .Λ) #cases-tally·counted-search code.function (code.unfolded 𝓤 H 𝓜 𝓡)
     (counted-search-meets 𝓤 H (𝓖 .A) (givenOf 𝓤 H 𝓜 𝓖) (𝓜 .mem) (𝓡 .run) (tablesOf 𝓤 H 𝓜 (tables 𝓤 H 𝓜 𝓡 code.env))
     (cited 𝓤 H (Callee 𝓤 H (𝓖 .A) (𝓜 .mem) (𝓡 .run)) 𝓜 𝓡 code.env #tallied-search·search-with-tally g-def.routine code.calls-tallied-search·search-with-tally (g-thm.met 𝓤 H 𝓜 𝓖 𝓡)))

@@ -1,4 +1,4 @@
--- `cases_tally::run_lines` meets its contract. Each turn leaves less of the input. The invariant: the table and the plan buffer keep their lengths.
+-- `cases_tally::run_lines` meets its contract. Each turn leaves less of the input, and both buffers their lengths.
 -- Assumes nothing.
 use mathlib.Core.Path.{_≡_}
 use Prim.Native.Nat.{_-_}
@@ -8,7 +8,8 @@ use Rattle.cases_tally.proofs.run_lines.Statement.{statement}
 use Rattle.cases_tally.proofs.run_lines.Tie as tie
 
 abbrev Inv-loop : tie.InvT-loop
-Inv-loop input table₀ plan₀ standing₀ from₀ table plan standing from = (length table ≡ length table₀) × (length plan ≡ length plan₀)
+Inv-loop input table₀ plan₀ standing₀ from₀ table plan standing from =
+    (length table ≡ length table₀) × (length plan ≡ length plan₀)
 
 abbrev μ-loop : tie.MeasureT-loop
 μ-loop input table₀ plan₀ standing₀ from₀ table plan standing from = length input - from

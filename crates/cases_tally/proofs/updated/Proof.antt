@@ -47,7 +47,7 @@ use Rattle.tally.proofs.update as g
 use Rattle.tally.proofs.update.Symbol as g-def
 use Rattle.tally.proofs.update.Symbol.{name as #tally·update}
 use Rattle.tally.proofs.update.Met as g-thm
-use Rattle.cases_tally.proofs.updated.Key.{name as #cases-search·updated}
+use Rattle.cases_tally.proofs.updated.Key.{name as #cases-tally·updated}
 use Rattle.cases_tally.proofs.updated as f
 use Rattle.cases_tally.proofs.updated.Statement as stated
 use Rattle.cases_tally.proofs.updated.Code as code
@@ -149,6 +149,6 @@ pub updated-spec : {M : Type 1} → stated.statement M
 unfolding code.routine tablesOf
 updated-spec 𝓤 H 𝓜 𝓖 𝓡 =
     entered 𝓤 H (tripleOf 𝓤 H (𝓖 .A) f.signature (f.spec 𝓤 H (𝓖 .A) (𝓜 .mem) (𝓡 .run)))
-    (tables 𝓤 H 𝓜 𝓡 code.env .C) (tables 𝓤 H 𝓜 𝓡 code.env .Λ) #cases-search·updated code.function (code.unfolded 𝓤 H 𝓜 𝓡)
+    (tables 𝓤 H 𝓜 𝓡 code.env .C) (tables 𝓤 H 𝓜 𝓡 code.env .Λ) #cases-tally·updated code.function (code.unfolded 𝓤 H 𝓜 𝓡)
     (updated-meets 𝓤 H (𝓖 .A) (givenOf 𝓤 H 𝓜 𝓖) (𝓜 .mem) (𝓡 .run) (tablesOf 𝓤 H 𝓜 (tables 𝓤 H 𝓜 𝓡 code.env))
     (cited 𝓤 H (Callee 𝓤 H (𝓖 .A) (𝓜 .mem) (𝓡 .run)) 𝓜 𝓡 code.env #tally·update g-def.routine code.calls-tally·update (g-thm.met 𝓤 H 𝓜 𝓖 𝓡)))

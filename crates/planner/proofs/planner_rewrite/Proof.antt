@@ -17,9 +17,11 @@ same-length c = search needs
 
 returns : tie.Need-returns
 returns c =
-    let s = c .before .before .before .before .before .before .before in
-    let again = c .before .before .before .rewrite .ensures in
-    let told = rewrite-packed (s .args .text .now) (length (s .args .out .now)) _ _ (again .0) (again .2) _ (c .pack-length .ensures) in
+    let call = c .before .before .before in
+    let s = call .before .before .before .before .args in
+    let again = call .rewrite .ensures in
+    let packs = c .pack-length .ensures in
+    let told = rewrite-packed (s .text .now) (length (s .out .now)) _ _ (again .0) (again .2) _ packs in
     (told .0, again .1, told .1)
 
 pub planner-rewrite-spec : {M : Type 1} → statement M
