@@ -4,7 +4,6 @@ use output::put_number;
 use separators::ending;
 ghost use mathlib.Core.Path.{_≡_};
 ghost use Prim.Native.Nat.{min};
-ghost use lib.ListN.{length};
 ghost use Rattle.files_spec.specs.Text.{numeral};
 ghost use Rattle.files_spec.specs.File.{entryText};
 ghost use Rattle.output_laws.specs.Overlay.{Laid, listText};

@@ -7,3 +7,4 @@ pub mod ValidityLaws
 pub mod Shapes
 pub mod CheckLaws
 pub mod BufferLaws
+pub mod CopyLaws

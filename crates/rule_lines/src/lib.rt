@@ -1,13 +1,13 @@
 // The lines of a rule, read at a place of the text: its cost, its condition and its effect.
 use blanks::blank_rule;
 use bounded::at_most;
-use entries::condition_item;
-use entries::effect_item;
 use items::word;
 use lines::number_line;
 use model_spec::Rule;
 use reader_laws::FoundLine;
 use reader_laws::FoundRule;
+use rule_entries::condition_item;
+use rule_entries::effect_item;
 use separators::ending;
 ghost use mathlib.Core.Path.{_≡_};
 ghost use Prim.Native.Nat.{_≤_, min};

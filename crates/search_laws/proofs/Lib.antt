@@ -1,4 +1,3 @@
-pub mod CopyLaws
 pub mod StateLoopLaws
 pub mod PlanArrayLaws
 pub mod LookupLaws

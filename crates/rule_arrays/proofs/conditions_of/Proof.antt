@@ -6,7 +6,7 @@ use Prim.Native.Nat.{_≤_, _-_}
 use native.Mathlib.Omega.{arith}
 use borrow.Author.Needs.{needs}
 use Rattle.model_spec.proofs.Shapes.{rules-31}
-use Rattle.search_laws.proofs.CopyLaws.{copied, row-more, row-whole}
+use Rattle.model_spec.proofs.CopyLaws.{copied, row-more, row-whole}
 use Rattle.rule_arrays.proofs.conditions_of.Statement.{statement}
 use Rattle.rule_arrays.proofs.conditions_of.Tie as tie
 

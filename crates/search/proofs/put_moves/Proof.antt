@@ -5,7 +5,7 @@ use Prim.Native.Nat.{_≤_, _-_}
 use native.Mathlib.Omega.{arith}
 use lib.ListN.{length, length-set}
 use borrow.Author.Needs.{needs}
-use Rattle.search_laws.proofs.CopyLaws.{copied, copied-more}
+use Rattle.model_spec.proofs.CopyLaws.{copied, copied-more}
 use Rattle.search.proofs.put_moves.Statement.{statement}
 use Rattle.search.proofs.put_moves.Tie as tie
 

@@ -6,7 +6,7 @@ use native.Mathlib.Omega.{arith}
 use lib.ListN.{length, take, length-take}
 use lib.Seq.{getD-take}
 use borrow.Author.Needs.{needs}
-use Rattle.search_laws.proofs.CopyLaws.{copied, copied-more, copied-padded}
+use Rattle.model_spec.proofs.CopyLaws.{copied, copied-more, copied-padded}
 use Rattle.steps.proofs.start_state.Statement.{statement}
 use Rattle.steps.proofs.start_state.Tie as tie
 

@@ -7,7 +7,7 @@ use native.Mathlib.Omega.{arith}
 use lib.ListN.{length, length-set, drop-of-length-le}
 use lib.Seq.{take-all}
 use borrow.Author.Needs.{needs}
-use Rattle.search_laws.proofs.CopyLaws.{copied, copied-more}
+use Rattle.model_spec.proofs.CopyLaws.{copied, copied-more}
 use Rattle.planner_spec.specs.TextMacro.{macroBuffer}
 use Rattle.planner_spec.proofs.MacroBytesLaws.{buffer-size, buffer-at}
 use Rattle.text_macro.proofs.put_macro.Statement.{statement}

@@ -1,11 +1,11 @@
--- `entries::with_entry` meets its contract: beyond the array there is nothing to set.
+-- `rule_entries::with_entry` meets its contract: beyond the array there is nothing to set.
 -- Assumes nothing.
 use mathlib.Core.Path.{sym}
 use native.Mathlib.Omega.{arith}
 use lib.Seq.{set-out}
 use borrow.Author.Needs.{needs}
-use Rattle.entries.proofs.with_entry.Statement.{statement}
-use Rattle.entries.proofs.with_entry.Tie as tie
+use Rattle.rule_entries.proofs.with_entry.Statement.{statement}
+use Rattle.rule_entries.proofs.with_entry.Tie as tie
 
 array-write-changed : tie.Need-array-write-changed
 array-write-changed c = search needs

@@ -1,4 +1,4 @@
--- `entries::variable` meets its contract: a number of a position, and its entry is that number and 15.
+-- `rule_entries::variable` meets its contract: a number of a position, and its entry is that number and 15.
 -- Assumes nothing.
 use mathlib.Core.Path.{_≡_}
 use Prim.Native.Nat.{_+_, min}
@@ -10,8 +10,8 @@ use Rattle.theory_spec.proofs.TestLaws.{within-iff}
 use Rattle.files_spec.specs.Reading.{parsed, number, numberWithin, variable}
 use Rattle.reader_laws.specs.Found.{found}
 use Rattle.reader_laws.proofs.FoundLaws.{parsed-found, then-refused, then-parsed, unless-value}
-use Rattle.entries.proofs.variable.Statement.{statement}
-use Rattle.entries.proofs.variable.Tie as tie
+use Rattle.rule_entries.proofs.variable.Statement.{statement}
+use Rattle.rule_entries.proofs.variable.Tie as tie
 
 at-most-requires : tie.Need-at-most-requires
 at-most-requires c κs = search needs

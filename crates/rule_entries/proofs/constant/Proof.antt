@@ -1,12 +1,12 @@
--- `entries::constant` meets its contract: a number from 0 to the one before the size.
+-- `rule_entries::constant` meets its contract: a number from 0 to the one before the size.
 -- Assumes nothing.
 use mathlib.Core.Path.{_≡_, _∙_}
 use native.Mathlib.Omega.{arith}
 use lib.ListN.{drop}
 use borrow.Author.Needs.{needs}
 use Rattle.reader_laws.proofs.PlacementLaws.{constant-none, constant-below}
-use Rattle.entries.proofs.constant.Statement.{statement}
-use Rattle.entries.proofs.constant.Tie as tie
+use Rattle.rule_entries.proofs.constant.Statement.{statement}
+use Rattle.rule_entries.proofs.constant.Tie as tie
 
 number-within-requires : tie.Need-number-within-requires
 number-within-requires c κs = search needs

@@ -1,4 +1,4 @@
--- `entries::condition_item` meets its contract: an entry, judged for its place.
+-- `rule_entries::condition_item` meets its contract: an entry, judged for its place.
 -- Assumes nothing.
 use mathlib.Core.Bool.{Bool}
 use Prim.Native.Nat.{ℕ}
@@ -7,8 +7,8 @@ use borrow.Author.Needs.{needs}
 use Rattle.model_spec.specs.Validity.{conditionPlaced}
 use Rattle.reader_laws.specs.Parts.{conditionEntry}
 use Rattle.reader_laws.proofs.PlacementLaws.{entry-refused, entry-misplaced, entry-placed}
-use Rattle.entries.proofs.condition_item.Statement.{statement}
-use Rattle.entries.proofs.condition_item.Tie as tie
+use Rattle.rule_entries.proofs.condition_item.Statement.{statement}
+use Rattle.rule_entries.proofs.condition_item.Tie as tie
 
 entry-requires : tie.Need-entry-requires
 entry-requires c κs = search needs

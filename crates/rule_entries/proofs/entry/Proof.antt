@@ -1,4 +1,4 @@
--- `entries::entry` meets its contract. The byte at the place decides between a variable and a constant;
+-- `rule_entries::entry` meets its contract. The byte at the place decides between a variable and a constant;
 -- past the end of the text there is none, and a constant is read. Past the end of the sizes a size is 0.
 -- Assumes nothing.
 use Prim.Native.Nat.{ℕ, _+_, min}
@@ -12,8 +12,8 @@ use borrow.Author.Tests.{eq-eqb, ne-eqb}
 use borrow.Author.Needs.{needs}
 use Rattle.files_spec.specs.File.{variableLetter}
 use Rattle.files_spec.specs.Reading.{variable, constant, entry}
-use Rattle.entries.proofs.entry.Statement.{statement}
-use Rattle.entries.proofs.entry.Tie as tie
+use Rattle.rule_entries.proofs.entry.Statement.{statement}
+use Rattle.rule_entries.proofs.entry.Tie as tie
 
 module _ (positions : ℕ) (sizes : List ℕ) (i ending : ℕ) (text : List ℕ) (at : ℕ) where
   -- the byte at a place of the text
