@@ -1,8 +1,6 @@
 pub mod FrontLaws
 pub mod CutLaws
 pub mod ListLaws
-pub mod SequenceTextLaws
 pub mod MarkLaws
 pub mod LengthLaws
 pub mod ReportLaws
-pub mod MarkLoopLaws

@@ -6,7 +6,7 @@ use tables::entry_at;
 ghost use mathlib.Core.Path.{_≡_};
 ghost use lib.ListN.{length};
 ghost use Rattle.output_laws.specs.Overlay.{Laid};
-ghost use Rattle.report_spec.specs.Marks.{tableMarks, marksText, tableText};
+ghost use Rattle.report_laws.specs.Marks.{tableMarks, marksText, tableText};
 
 // How many sequences a table marks.
 fn count_marks(table: &[u8]) -> usize

@@ -2,7 +2,7 @@
 -- Assumes nothing.
 use borrow.Author.Needs.{needs}
 use Rattle.output_laws.proofs.OverlayLaws.{laid-none, laid-append}
-use Rattle.report_spec.proofs.MarkLoopLaws.{entry-kept, entry-marked}
+use Rattle.report_laws.proofs.MarkLoopLaws.{entry-kept, entry-marked}
 use Rattle.mark_output.proofs.put_mark.Statement.{statement}
 use Rattle.mark_output.proofs.put_mark.Tie as tie
 

@@ -5,7 +5,7 @@ use Prim.Native.Nat.{ℕ, _+_, _-_, _/_, _%_}
 use native.Mathlib.Omega.{arith}
 use borrow.Author.Needs.{needs}
 use Rattle.output_laws.proofs.OverlayLaws.{shown-number, laid-none, laid-append}
-use Rattle.report_spec.proofs.SequenceTextLaws.{text-none, text-one, rule-number, rule-before, text-two}
+use Rattle.report_laws.proofs.SequenceTextLaws.{text-none, text-one, rule-number, rule-before, text-two}
 use Rattle.mark_output.proofs.put_sequence.Statement.{statement}
 use Rattle.mark_output.proofs.put_sequence.Tie as tie
 

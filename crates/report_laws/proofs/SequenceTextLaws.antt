@@ -13,8 +13,8 @@ use Rattle.model_spec.specs.declared.RuleSet.{RuleSet}
 use Rattle.files_spec.specs.Text.{comma, numeral, commaList}
 use Rattle.tables_spec.specs.Table.{tableEntries, sequenceAt}
 use Rattle.tables_spec.proofs.CountLaws.{count-sequences}
 use Rattle.report_spec.specs.Listing.{sequenceItems}
-use Rattle.report_spec.specs.Marks.{sequenceText}
+use Rattle.report_laws.specs.Marks.{sequenceText}
 
 -- index 0
 pub text-none : (m i : ℕ) → i < 1 → sequenceText m i ≡ []

@@ -1,0 +1,3 @@
+pub mod SequenceTextLaws
+pub mod MarkLoopLaws
+pub mod TableTextLaws
