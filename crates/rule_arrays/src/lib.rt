@@ -9,12 +9,12 @@ pub fn conditions_of(set: RuleSet) -> [[u8; 16]; 31]
 {
     let zeros = [0u8; 16];
     let mut conditions = [zeros; 31];
-    let mut k: usize = 0;
-    while k < 31 {
-        let rule = set.rules[k];
+    let mut i: usize = 0;
+    while i < 31 {
+        let rule = set.rules[i];
         let condition = rule.condition;
-        conditions[k] = condition;
-        k += 1;
+        conditions[i] = condition;
+        i += 1;
     }
     conditions
 }
@@ -25,12 +25,12 @@ pub fn effects_of(set: RuleSet) -> [[u8; 16]; 31]
 {
     let zeros = [0u8; 16];
     let mut effects = [zeros; 31];
-    let mut k: usize = 0;
-    while k < 31 {
-        let rule = set.rules[k];
+    let mut j: usize = 0;
+    while j < 31 {
+        let rule = set.rules[j];
         let effect = rule.effect;
-        effects[k] = effect;
-        k += 1;
+        effects[j] = effect;
+        j += 1;
     }
     effects
 }

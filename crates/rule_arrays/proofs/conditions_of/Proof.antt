@@ -11,10 +11,10 @@ use Rattle.rule_arrays.proofs.conditions_of.Statement.{statement}
 use Rattle.rule_arrays.proofs.conditions_of.Tie as tie
 
 abbrev Inv-loop : tie.InvT-loop
-Inv-loop set conditions₀ k₀ conditions k = (k ≤ 31) × (conditions ≡ copied conditions₀ (map (λ rule. rule .condition) (set .rules)) k)
+Inv-loop set conditions₀ i₀ conditions i = (i ≤ 31) × (conditions ≡ copied conditions₀ (map (λ rule. rule .condition) (set .rules)) i)
 
 abbrev μ-loop : tie.MeasureT-loop
-μ-loop set conditions₀ k₀ conditions k = 31 - k
+μ-loop set conditions₀ i₀ conditions i = 31 - i
 
 loop-holds : tie.Need-loop-holds Inv-loop μ-loop
 loop-holds c = (search needs, refl)
@@ -31,8 +31,8 @@ mul-conditions c = search needs
 array-set-from-conditions : tie.Need-array-set-from-conditions Inv-loop μ-loop
 array-set-from-conditions c = search needs
 
-add-k : tie.Need-add-k Inv-loop μ-loop
-add-k c = search needs
+add-i : tie.Need-add-i Inv-loop μ-loop
+add-i c = search needs
 
 loop-less : tie.Need-loop-less Inv-loop μ-loop
 loop-less c = search needs
@@ -41,13 +41,13 @@ loop-again : tie.Need-loop-again Inv-loop μ-loop
 loop-again c =
     let start = c .before .before .before .before in
     let l = c .before .before .before .loop in
-    (search needs, row-more (λ rule. rule .condition) _ (start .args .t1 .rules) (l .k) (l .conditions) (l .inv .1) _ (omega arith) (omega (arith, rules-31 (start .args .t1) _ (start .good .0))))
+    (search needs, row-more (λ rule. rule .condition) _ (start .args .t1 .rules) (l .i) (l .conditions) (l .inv .1) _ (omega arith) (omega (arith, rules-31 (start .args .t1) _ (start .good .0))))
 
 returns : tie.Need-returns Inv-loop μ-loop
 returns c =
     let start = c .before .before in
     let l = c .before .loop in
-    row-whole (λ rule. rule .condition) _ (start .args .t1 .rules) (l .k) (l .conditions) (l .inv .1) (omega arith) (omega (arith, rules-31 (start .args .t1) _ (start .good .0)))
+    row-whole (λ rule. rule .condition) _ (start .args .t1 .rules) (l .i) (l .conditions) (l .inv .1) (omega arith) (omega (arith, rules-31 (start .args .t1) _ (start .good .0)))
 
 pub conditions-of-spec : {M : Type 1} → statement M
 conditions-of-spec =
@@ -60,7 +60,7 @@ conditions-of-spec =
     element-copy-out-rule
     mul-conditions
     array-set-from-conditions
-    add-k
+    add-i
     loop-less
     loop-again
     returns)

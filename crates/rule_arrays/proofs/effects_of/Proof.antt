@@ -11,10 +11,10 @@ use Rattle.rule_arrays.proofs.effects_of.Statement.{statement}
 use Rattle.rule_arrays.proofs.effects_of.Tie as tie
 
 abbrev Inv-loop : tie.InvT-loop
-Inv-loop set effects₀ k₀ effects k = (k ≤ 31) × (effects ≡ copied effects₀ (map (λ rule. rule .effect) (set .rules)) k)
+Inv-loop set effects₀ j₀ effects j = (j ≤ 31) × (effects ≡ copied effects₀ (map (λ rule. rule .effect) (set .rules)) j)
 
 abbrev μ-loop : tie.MeasureT-loop
-μ-loop set effects₀ k₀ effects k = 31 - k
+μ-loop set effects₀ j₀ effects j = 31 - j
 
 loop-holds : tie.Need-loop-holds Inv-loop μ-loop
 loop-holds c = (search needs, refl)
@@ -31,8 +31,8 @@ mul-effects c = search needs
 array-set-from-effects : tie.Need-array-set-from-effects Inv-loop μ-loop
 array-set-from-effects c = search needs
 
-add-k : tie.Need-add-k Inv-loop μ-loop
-add-k c = search needs
+add-j : tie.Need-add-j Inv-loop μ-loop
+add-j c = search needs
 
 loop-less : tie.Need-loop-less Inv-loop μ-loop
 loop-less c = search needs
@@ -41,13 +41,13 @@ loop-again : tie.Need-loop-again Inv-loop μ-loop
 loop-again c =
     let start = c .before .before .before .before in
     let l = c .before .before .before .loop in
-    (search needs, row-more (λ rule. rule .effect) _ (start .args .t1 .rules) (l .k) (l .effects) (l .inv .1) _ (omega arith) (omega (arith, rules-31 (start .args .t1) _ (start .good .0))))
+    (search needs, row-more (λ rule. rule .effect) _ (start .args .t1 .rules) (l .j) (l .effects) (l .inv .1) _ (omega arith) (omega (arith, rules-31 (start .args .t1) _ (start .good .0))))
 
 returns : tie.Need-returns Inv-loop μ-loop
 returns c =
     let start = c .before .before in
     let l = c .before .loop in
-    row-whole (λ rule. rule .effect) _ (start .args .t1 .rules) (l .k) (l .effects) (l .inv .1) (omega arith) (omega (arith, rules-31 (start .args .t1) _ (start .good .0)))
+    row-whole (λ rule. rule .effect) _ (start .args .t1 .rules) (l .j) (l .effects) (l .inv .1) (omega arith) (omega (arith, rules-31 (start .args .t1) _ (start .good .0)))
 
 pub effects-of-spec : {M : Type 1} → statement M
 effects-of-spec =
@@ -60,7 +60,7 @@ effects-of-spec =
     element-copy-out-rule
     mul-effects
     array-set-from-effects
-    add-k
+    add-j
     loop-less
     loop-again
     returns)
