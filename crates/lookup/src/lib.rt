@@ -40,8 +40,8 @@ fn tail_index(count: usize, index: usize) -> usize
     ((before - 1) % count + 1) * count + newest
 }
 
-// The look-up of a table, by how many rules the set has: a suffix of a sequence is the sequence itself, or one of what is
-// left without its first rule.
+// The look-up of a table, by how many rules the set has: a suffix of a sequence is the sequence itself, or one of what
+// is left without its first rule.
 pub fn lookup_of(count: u8, table: &[u8]) -> [u8; 30784]
     ensures { λ r. ⌜ LooksUp (min count 31) (now (table .entry)) r ⌝ }
 {
@@ -69,8 +69,8 @@ fn moves_of(depth: u8) -> usize
     if depth < 32 { depth as usize } else { 32 }
 }
 
-// The place in the look-up of a sequence's last `reach` - 1 rules, at most two, with rule 1 behind them; the places of the
-// other rules follow. The sequence is the first `depth` moves of the plan.
+// The place in the look-up of a sequence's last `reach` - 1 rules, at most two, with rule 1 behind them; the places of
+// the other rules follow. The sequence is the first `depth` moves of the plan.
 pub fn first_place(reach: usize, count: u8, plan: &[u8; 32], depth: u8) -> usize
     ensures { λ r. ⌜
         r ≡ indexOf count (last (min (reach - 1) 2) (take depth (now (plan .entry)))) * count + 1 ⌝ }

@@ -69,7 +69,9 @@ pub fn noted(
     progress: Progress,
 ) -> Progress
     ensures { λ r. ⌜
-        r ≡ notedMoves (take 16 (now (goal .entry))) «step_limit» cost depth (now (plan .entry)) (now (state .entry)) progress ⌝ }
+        r
+        ≡ notedMoves (take 16 (now (goal .entry))) «step_limit» cost depth
+        (now (plan .entry)) (now (state .entry)) progress ⌝ }
 {
     let best = progress.best;
     if step_limit <= progress.steps {

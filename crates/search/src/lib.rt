@@ -50,7 +50,9 @@ pub fn search(
     plan: &mut [u8],
 ) -> Answer
     ensures { λ r. ⌜
-        (let query = asked reach (now (table .entry)) (now (start .entry)) (now (goal .entry)) «max_moves» «max_cost» «step_limit» (length (now (plan .entry))) in
+        (let query =
+        asked reach (now (table .entry)) (now (start .entry)) (now (goal .entry))
+        «max_moves» «max_cost» «step_limit» (length (now (plan .entry))) in
         let found : Searched = record { answer = r; plan = now (plan .exit) } in
         (searched set query ≡ found)
         × SearchMeaning set query found) ⌝ }

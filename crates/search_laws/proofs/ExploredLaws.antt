@@ -50,12 +50,15 @@ lent-cost : (set : RuleSet) → lentCost (map (λ rule. rule .cost) (set .rules)
 unfolding lentCost ruleCost ruleAt
 lent-cost set = fun-ext λ r. List·getD-map (λ rule. rule .cost) (set .rules) (r - 1) noRule
 
-module _ (set : RuleSet) (query : Query) (notRefused : NotRefused set query) (blocked : List ℕ) (looked : LooksUp (min (set .count) 31) (query .table) blocked) where
+module _ (set : RuleSet) (query : Query) (notRefused : NotRefused set query) (blocked : List ℕ)
+    (looked : LooksUp (min (set .count) 31) (query .table) blocked) where
   judged : WellPosed set query
   judged = not-refused-iff set query .0 notRefused
 
   looks : LooksUp (set .count) (query .table) blocked
-  looks = let few : min (set .count) 31 ≡ set .count = omega (arith, judged .0 .0 .0 .0 .0 .0 .formed .countLimits) in subst (λ m. LooksUp m (query .table) blocked) few looked
+  looks =
+      let few : min (set .count) 31 ≡ set .count = omega (arith, judged .0 .0 .0 .0 .0 .0 .formed .countLimits) in
+      subst (λ m. LooksUp m (query .table) blocked) few looked
 
   abbrev marks : Sequence → Bool
   marks = marked set (query .reach) (query .table)
@@ -129,23 +132,32 @@ module _ (set : RuleSet) (query : Query) (notRefused : NotRefused set query) (bl
       })
 
   -- the whole search of a query that is not refused: the visits from the empty sequence on, over what is lent
-  pub explored-whole : (conditions effects : List (List ℕ)) (costs : List ℕ) (state : State) (limits : Limits) (found : Progress)
+  pub explored-whole : (conditions effects : List (List ℕ)) (costs : List ℕ) (state : State) (limits : Limits)
+      (found : Progress)
       → conditions ≡ map (λ rule. rule .condition) (set .rules)
       → effects ≡ map (λ rule. rule .effect) (set .rules)
       → costs ≡ map (λ rule. rule .cost) (set .rules)
       → state ≡ padded 16 0 (take 16 (query .start))
-      → limits ≡ record { positions = set .positions; count = set .count; reach = query .reach; «max_cost» = query .maxCost; «step_limit» = query .stepLimit }
+      → limits ≡ record {
+        positions = set .positions;
+        count = set .count;
+        reach = query .reach;
+        «max_cost» = query .maxCost;
+        «step_limit» = query .stepLimit;
+      }
       → found ≡ visitsFrom conditions effects costs blocked (query .goal) limits (query .maxMoves) [] state noProgress
       → Explored set query found
   unfolding visitsFrom mayGoOn
   explored-whole conditions effects costs state limits found a b c s e is =
-      rw (is, a, b, c, s ∙ start-fits set query notRefused, e) (subst (Explored set query) (sym (ap₂ visits (lent-step set) (lent-cost set))) visits-explored)
+      rw (is, a, b, c, s ∙ start-fits set query notRefused, e)
+      (subst (Explored set query) (sym (ap₂ visits (lent-step set) (lent-cost set))) visits-explored)
 
 -- ── The judgement of the query ───────────────────────────────────────────────────────────────────
 
 -- neither the cost bound nor the step limit refuses anything
 pub same-refusal : (set : RuleSet) (query : Query) (refusal : ℕ)
-    → refusal ≡ firstRefusal (queryCauses set (asked (query .reach) (query .table) (query .start) (query .goal) (query .maxMoves) 0 0 (query .planSize)))
+    → (let unbounded = asked (query .reach) (query .table) (query .start) (query .goal) (query .maxMoves) 0 0 (query .planSize) in
+    refusal ≡ firstRefusal (queryCauses set unbounded))
     → refusal ≡ firstRefusal (queryCauses set query)
 unfolding queryCauses
 same-refusal set query refusal e = e

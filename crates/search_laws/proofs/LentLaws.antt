@@ -1,5 +1,5 @@
--- What the search lends to itself is as the recursion asks, for a query that is not refused: the rules' lines and the start are zero beyond the positions,
--- and the empty sequence has been reached.
+-- What the search lends to itself is as the recursion asks, for a query that is not refused: the rules' lines and the
+-- start are zero beyond the positions, and the empty sequence has been reached.
 -- Assumes nothing.
 use mathlib.Core.Path.{_≡_, refl, sym, ap, _∙_, subst}
 use mathlib.Core.Logic.{⊎-elim}
@@ -33,14 +33,22 @@ module _ (set : RuleSet) (v : WellFormed set) where
       ⊎-elim (λ (b : e < 16). omega (arith, k .constant b, one)) (λ (b : 16 ≤ e). absurd (omega (arith, k .equalSizes b, valid-width-position set v (e - 16) (k .position b), one))) (below? e 16)
 
   -- so a line of a rule ends in zeros
-  line-beyond : (condition line : List ℕ) → length line ≡ 16 → ((i : ℕ) → i < 16 → EntryValid (set .positions) (set .sizes) condition i (getD line i 0)) → EndsAt (set .positions) line
-  line-beyond condition line size entries =
-      (size, λ i h. ⊎-elim (λ b. entry-beyond condition i (getD line i 0) h (entries i b)) (λ b. List·getD-eq-default line 0 {n = i} (omega (arith, size))) (below? i 16))
+  line-beyond : (condition line : List ℕ) → length line ≡ 16
+      → ((i : ℕ) → i < 16 → EntryValid (set .positions) (set .sizes) condition i (getD line i 0))
+      → EndsAt (set .positions) line
+  line-beyond condition line size entries = (
+    size,
+    λ i h. ⊎-elim (λ b. entry-beyond condition i (getD line i 0) h (entries i b))
+        (λ b. List·getD-eq-default line 0 {n = i} (omega (arith, size))) (below? i 16),
+  )
 
   -- and so has a state of the set's sizes
   state-beyond : (s : List ℕ) → StateOf set s → EndsAt (set .positions) s
-  state-beyond s k =
-      (k .0, λ i h. ⊎-elim (λ (b : i < 16). omega (arith, k .1 i b, width-beyond (set .positions) (set .sizes) i h)) (λ b. List·getD-eq-default s 0 {n = i} (omega (arith, k .0))) (below? i 16))
+  state-beyond s k = (
+    k .0,
+    λ i h. ⊎-elim (λ (b : i < 16). omega (arith, k .1 i b, width-beyond (set .positions) (set .sizes) i h))
+        (λ b. List·getD-eq-default s 0 {n = i} (omega (arith, k .0))) (below? i 16),
+  )
 
 module _ (set : RuleSet) (query : Query) (notRefused : NotRefused set query) where
   -- what the search goes by
@@ -54,7 +62,8 @@ module _ (set : RuleSet) (query : Query) (notRefused : NotRefused set query) whe
   valid = judged .0 .0 .0 .0 .0 .0 .formed
 
   -- what stays the same all through
-  lent-rules : Lent (map (λ rule. rule .condition) (set .rules)) (map (λ rule. rule .effect) (set .rules)) (query .goal) limits
+  lent-rules : Lent (map (λ rule. rule .condition) (set .rules)) (map (λ rule. rule .effect) (set .rules)) (query .goal)
+      limits
   lent-rules =
       let goal = judged .0 .0 .0 in
       record {
@@ -72,13 +81,15 @@ module _ (set : RuleSet) (query : Query) (notRefused : NotRefused set query) whe
             (line-beyond set valid (getD (set .rules) k noRule .condition) (getD (set .rules) k noRule .effect) (w .effectLength) (w .effectEntries));
       }
 
-  pub lent-whole : (conditions effects : List (List ℕ)) → conditions ≡ map (λ rule. rule .condition) (set .rules) → effects ≡ map (λ rule. rule .effect) (set .rules)
+  pub lent-whole : (conditions effects : List (List ℕ)) → conditions ≡ map (λ rule. rule .condition) (set .rules)
+      → effects ≡ map (λ rule. rule .effect) (set .rules)
       → Lent conditions effects (query .goal) limits
   lent-whole conditions effects a b = rw (a, b) lent-rules
 
   -- the start fits a state
   pub start-fits : padded 16 0 (take 16 (query .start)) ≡ startState query
-  start-fits = ap (padded 16 0) (take-all 16 (query .start) (omega (arith, judged .0 .0 .0 .0 .1 .0, valid .positionLimits)))
+  start-fits =
+      ap (padded 16 0) (take-all 16 (query .start) (omega (arith, judged .0 .0 .0 .0 .1 .0, valid .positionLimits)))
 
   -- the empty sequence is reached there
   pub reached-first : (costs : List ℕ) (state : State) → state ≡ padded 16 0 (take 16 (query .start))
@@ -91,5 +102,6 @@ module _ (set : RuleSet) (query : Query) (notRefused : NotRefused set query) whe
         total = refl;
         stateEnd =
             rw (e ∙ start-fits)
-            (state-beyond set valid (startState query) (start-state set query valid (start-fits-iff set (query .start) .1 (judged .0 .0 .0 .0 .1))));
+            (state-beyond set valid (startState query)
+            (start-state set query valid (start-fits-iff set (query .start) .1 (judged .0 .0 .0 .0 .1))));
       }

@@ -1,5 +1,6 @@
 -- The look-up holds what the marks of a table say: at the index of the last rules of a sequence, whether one of its short suffixes is marked.
--- With it, what the functions of the look-up need: the sequence of an index without its first rule, the turns of the loop that fills the look-up, and the index of the last rules.
+-- With it, what the functions of the look-up need: the sequence of an index without its first rule, the turns of the
+-- loop that fills the look-up, and the index of the last rules.
 -- Assumes nothing.
 use mathlib.Core.Path.{_≡_, refl, sym, ap, ap₂, _∙_, subst}
 use mathlib.Core.Logic.{_⊎_, inl, inr, _≢_, ⊎-elim}
@@ -92,7 +93,8 @@ pub look-up-marks : (set : RuleSet) (reach : ℕ) (table blocked : List ℕ) →
     → eqb (getD blocked (indexOf (set .count) (last reach q)) 0) 0 ≡ not (any (marked set reach table) (shortSuffixes reach q))
 unfolding tableEntries
 look-up-marks set reach table blocked near size looks q k =
-    ap (λ n. eqb n 0) (looks (indexOf m l) ∙ ap₂ (λ a w. cond (a && suffixMarked m table w) 1 0) (lt-ltb (indexOf m l) _ fits) (sequence-back m reach l near short numbered))
+    ap (λ n. eqb n 0) (looks (indexOf m l) ∙ ap₂ (λ a w. cond (a && suffixMarked m table w) 1 0)
+    (lt-ltb (indexOf m l) _ fits) (sequence-back m reach l near short numbered))
     ∙ zero-mark (suffixMarked m table l)
     ∙ ap not (suffix-marks set reach table l short numbered ∙ ap (any (marked set reach table)) (last-suffixes reach q))
   where
@@ -240,11 +242,14 @@ look-up-more m table blocked i tail block fits some room looks is less write j h
         subst (λ k. getD (set blocked i block) k 0 ≡ cond (suffixMarked m table (sequenceOf m 3 k)) 1 0) e (getD-set-same blocked i block 0 room ∙ written)
 
 -- the other places stay blank
-pub blank-more : (blocked : List ℕ) (i end block : ℕ) → i < end → BlankFrom blocked i end → BlankFrom (set blocked i block) (i + 1) end
-blank-more blocked i end block h blank j k = getD-set-other blocked i j block 0 (λ e. omega (arith, e)) ∙ blank j (omega arith)
+pub blank-more : (blocked : List ℕ) (i end block : ℕ) → i < end → BlankFrom blocked i end
+    → BlankFrom (set blocked i block) (i + 1) end
+blank-more blocked i end block h blank j k =
+    getD-set-other blocked i j block 0 (λ e. omega (arith, e)) ∙ blank j (omega arith)
 
 -- after the last turn it is the look-up
-pub look-up-whole : (m : ℕ) (table blocked : List ℕ) (i end : ℕ) → end ≡ min (length table / 2) (sequenceCount m 3) → end ≤ i
+pub look-up-whole : (m : ℕ) (table blocked : List ℕ) (i end : ℕ) → end ≡ min (length table / 2) (sequenceCount m 3)
+    → end ≤ i
     → LooksUpTo m table blocked i → BlankFrom blocked i end → LooksUp m table blocked
 look-up-whole m table blocked i end is all looks blank j = ⊎-elim entry none (below? j end)
   where
@@ -252,10 +257,14 @@ look-up-whole m table blocked i end is all looks blank j = ⊎-elim entry none (
     what a = cond (a && suffixMarked m table (sequenceOf m 3 j)) 1 0
 
     entry : j < end → getD blocked j 0 ≡ what (ltb j (min (length table / 2) (sequenceCount m 3)))
-    entry h = looks j (omega arith) ∙ sym (ap what (lt-ltb j (min (length table / 2) (sequenceCount m 3)) (omega (arith, is))))
+    entry h =
+        looks j (omega arith)
+        ∙ sym (ap what (lt-ltb j (min (length table / 2) (sequenceCount m 3)) (omega (arith, is))))
 
     none : end ≤ j → getD blocked j 0 ≡ what (ltb j (min (length table / 2) (sequenceCount m 3)))
-    none h = blank j (omega arith) ∙ sym (ap what (le-ltb j (min (length table / 2) (sequenceCount m 3)) (omega (arith, is))))
+    none h =
+        blank j (omega arith)
+        ∙ sym (ap what (le-ltb j (min (length table / 2) (sequenceCount m 3)) (omega (arith, is))))
 
 -- ── The place of the last rules of a plan ────────────────────────────────────────────────────────
 
@@ -302,7 +311,8 @@ take-within n plan = ⊎-elim (λ h. let e : min n (length plan) ≡ n = omega a
     (λ h. take-all (min n (length plan)) plan (omega arith) ∙ sym (take-all n plan h)) (below? n (length plan))
 
 -- with rule 1 behind them, and with each other rule, they have a place among the sequences of at most `reach` rules
-pub place-fits : (m reach : ℕ) (q : Sequence) (place : ℕ) → 1 ≤ reach → reach ≤ 3 → Numbered m q → place ≡ indexOf m (last (min (reach - 1) 2) q) * m + 1
+pub place-fits : (m reach : ℕ) (q : Sequence) (place : ℕ) → 1 ≤ reach → reach ≤ 3 → Numbered m q
+    → place ≡ indexOf m (last (min (reach - 1) 2) q) * m + 1
     → (place ≡ indexOf m (last (reach - 1) q) * m + 1) × (place + m ≤ sequenceCount m reach)
 place-fits m zero q place h near k e = absurd (omega arith)
 place-fits m (suc n) q place h near k e =

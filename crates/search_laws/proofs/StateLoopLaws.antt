@@ -1,4 +1,5 @@
--- Loops over the positions only: where lines and state are zero beyond the positions, the turns that are left out change nothing.
+-- Loops over the positions only: where lines and state are zero beyond the positions, the turns that are left out
+-- change nothing.
 -- Assumes nothing.
 use mathlib.Core.Path.{_≡_, refl, sym, ap, ap₂, _∙_}
 use mathlib.Core.Bool.{Bool, _&&_}
@@ -25,13 +26,15 @@ module _ (f : ℕ → ℕ) (z : f 0 ≡ 0) where
       ap (getD (map f (drop i x)) j) (sym z) ∙ List·getD-map f (drop i x) j 0 ∙ mapped ∙ sym (getD-drop i y j 0 ∙ zy (i + j) (omega arith)))
 
   -- so a comparison of the first n places tells of all
-  same-front : (n : ℕ) (x y : List ℕ) → ZerosFrom n x → ZerosFrom n y → length x ≡ length y → same (map f (take n x)) (take n y) ≡ same (map f x) y
+  same-front : (n : ℕ) (x y : List ℕ) → ZerosFrom n x → ZerosFrom n y → length x ≡ length y
+      → same (map f (take n x)) (take n y) ≡ same (map f x) y
   same-front zero x y zx zy e = sym (ap (λ l. same l y) (rest-same x y 0 zx zy e) ∙ same-refl y)
   same-front (suc n) [] [] zx zy e = refl
   same-front (suc n) [] (b ∷ y) zx zy e = absurd (omega arith)
   same-front (suc n) (a ∷ x) [] zx zy e = absurd (omega arith)
   same-front (suc n) (a ∷ x) (b ∷ y) zx zy e =
-      ap (λ r. eqb (f a) b && r) (same-front n x y (λ i h. zx (suc i) (omega arith)) (λ i h. zy (suc i) (omega arith)) (omega arith))
+      ap (λ r. eqb (f a) b && r)
+      (same-front n x y (λ i h. zx (suc i) (omega arith)) (λ i h. zy (suc i) (omega arith)) (omega arith))
 
 -- a state meets a condition if it does at the positions
 met-within : (n : ℕ) (condition state : List ℕ) → n ≤ 16 → EndsAt n condition → EndsAt n state
@@ -40,12 +43,14 @@ unfolding meetsWithin applicable valuesOf
 met-within n condition state h ends held =
     let least : min n 16 ≡ n = omega arith in
     ap (λ k. meetsWithin k condition state) least
-    ∙ same-front (λ e. valueOf e state) (value-constant 0 state (omega arith)) n condition state (ends .1) (held .1) (ends .0 ∙ sym (held .0))
+    ∙ same-front (λ e. valueOf e state) (value-constant 0 state (omega arith)) n condition state (ends .1) (held .1)
+    (ends .0 ∙ sym (held .0))
 
 -- so with another test before it
 pub goes-within : (n : ℕ) (condition state : List ℕ) (may goes : Bool) → n ≤ 16 → EndsAt n condition → EndsAt n state
     → goes ≡ (may && meetsWithin (min n 16) condition state) → goes ≡ (may && applicable condition state)
-goes-within n condition state may goes h ends held e = e ∙ ap (λ met. may && met) (met-within n condition state h ends held)
+goes-within n condition state may goes h ends held e =
+    e ∙ ap (λ met. may && met) (met-within n condition state h ends held)
 
 -- the state that an effect leads to ends in zeros where the effect does
 pub successor-ends : (n : ℕ) (effect state : List ℕ) → EndsAt n effect → EndsAt n (successor effect state)
@@ -56,7 +61,8 @@ successor-ends n effect state ends = (
 
 -- ── One list over another ────────────────────────────────────────────────────────────────────────
 
-laid-next : (i : ℕ) (new old : List ℕ) → i < length new → set (laidOver i new old) i (getD new i 0) ≡ laidOver (suc i) new old
+laid-next : (i : ℕ) (new old : List ℕ) → i < length new
+    → set (laidOver i new old) i (getD new i 0) ≡ laidOver (suc i) new old
 unfolding laidOver
 laid-next i [] old h = absurd (omega arith)
 laid-next zero (x ∷ new) [] h = refl
@@ -69,14 +75,17 @@ pub laid-none : (new old : List ℕ) → old ≡ laidOver 0 new old
 unfolding laidOver
 laid-none new old = refl
 
-pub laid-more : (i : ℕ) (new old l : List ℕ) (x : ℕ) → i < length new → l ≡ laidOver i new old → x ≡ getD new i 0 → set l i x ≡ laidOver (i + 1) new old
+pub laid-more : (i : ℕ) (new old l : List ℕ) (x : ℕ) → i < length new → l ≡ laidOver i new old → x ≡ getD new i 0
+    → set l i x ≡ laidOver (i + 1) new old
 laid-more i new old l x h e v = rw (e, v, add-one i) (laid-next i new old h)
 
 -- over zeros, where the list ends in zeros
 laid-zeros : (n : ℕ) (new : List ℕ) → ZerosFrom n new → laidOver n new (replicate (length new) 0) ≡ new
 unfolding laidOver
 laid-zeros zero [] zeros = refl
-laid-zeros zero (x ∷ new) zeros = ap₂ (λ (y : ℕ) (l : List ℕ). y ∷ l) (sym (zeros 0 (omega arith))) (laid-zeros zero new (λ i h. zeros (suc i) (omega arith)))
+laid-zeros zero (x ∷ new) zeros =
+    ap₂ (λ (y : ℕ) (l : List ℕ). y ∷ l) (sym (zeros 0 (omega arith)))
+    (laid-zeros zero new (λ i h. zeros (suc i) (omega arith)))
 laid-zeros (suc n) [] zeros = refl
 laid-zeros (suc n) (x ∷ new) zeros = ap (λ (l : List ℕ). x ∷ l) (laid-zeros n new (λ i h. zeros (suc i) (omega arith)))
 

@@ -23,7 +23,8 @@ use Rattle.model_spec.proofs.LoopLaws.{rules-left}
 use Rattle.search_spec.specs.Searched.{noMove}
 use Rattle.search_laws.specs.declared.Progress.{Progress}
 use Rattle.search_laws.specs.declared.Limits.{Limits}
-use Rattle.search_laws.specs.Visits.{lentStep, lentCost, mayGoOn, bestAt, notedMoves, noted, visitsFrom, meetsWithin, laidOver, EndsAt, Lent, Reached}
+use Rattle.search_laws.specs.Visits.{lentStep, lentCost, mayGoOn, bestAt, notedMoves, noted, visitsFrom}
+use Rattle.search_laws.specs.Visits.{meetsWithin, laidOver, EndsAt, Lent, Reached}
 use Rattle.search_laws.proofs.StateLoopLaws.{goes-within, successor-ends, led-within}
 use Rattle.search_laws.proofs.PlanArrayLaws.{plan-moves}
 use Rattle.search_laws.proofs.LookupLaws.{last-place}
@@ -52,18 +53,33 @@ enter-only c true false t visit = refl
 enter-only c false false t visit = refl
 
 -- what the search goes on to costs no more than the cost bound, and fits where that fits
-pub goes-cheap : (total most room : ℕ) (b a goes : Bool) → goes ≡ ((leb total most && b) && a) → goes ≡ true → most < room → total < room
-goes-cheap total most room b a goes e t h = let w = leb-true total most (and-split (leb total most) b (and-split (leb total most && b) a (sym e ∙ t) .0) .0) in omega arith
+pub goes-cheap : (total most room : ℕ) (b a goes : Bool) → goes ≡ ((leb total most && b) && a) → goes ≡ true
+    → most < room → total < room
+goes-cheap total most room b a goes e t h =
+    let w = leb-true total most (and-split (leb total most) b (and-split (leb total most && b) a (sym e ∙ t) .0) .0)
+    in omega arith
 
 -- the limit is exceeded, and the floor is no higher than a cost: what costs as much or more changes nothing
 abbrev Idle : ℕ → ℕ → Progress → Type 0
 Idle limit cost p = (limit ≤ p .steps) × (p .exceeded ≡ true) × (p .floor ≤ cost)
 
+-- what a sequence makes of the progress within the limit, and beyond it
+abbrev stepped : List ℕ → ℕ → Sequence → State → Progress → Progress
+stepped goal cost q s p = record {
+  steps = p .steps + 1;
+  exceeded = false;
+  best = bestAt goal cost (length q) (padded 32 noMove q) s (p .best);
+  floor = p .floor;
+}
+
+abbrev beyond : ℕ → Progress → Progress
+beyond cost p = record { steps = p .steps; exceeded = true; best = p .best; floor = min (p .floor) cost }
+
 noted-idle : (goal : List ℕ) (limit cost : ℕ) (q : Sequence) (s : State) (p : Progress) → Idle limit cost p → noted goal limit cost q s p ≡ p
 unfolding noted notedMoves
 noted-idle goal limit cost q s p h =
     let low : min (p .floor) cost ≡ p .floor = let k = h .2 in omega arith in
-    ap (λ b. cond b (record { steps = p .steps + 1; exceeded = false; best = bestAt goal cost (length q) (padded 32 noMove q) s (p .best); floor = p .floor }) (record { steps = p .steps; exceeded = true; best = p .best; floor = min (p .floor) cost }))
+    ap (λ b. cond b (stepped goal cost q s p) (beyond cost p))
     (le-ltb (p .steps) limit (h .0))
     ∙ (λ i. record { steps = p .steps; exceeded = sym (h .1) i; best = p .best; floor = low i })
 
@@ -73,7 +89,7 @@ unfolding noted notedMoves
 idle-noted goal limit cost q s p c e t = go (ltb (p .steps) limit) refl e
   where
     go : (b : Bool) → ltb (p .steps) limit ≡ b
-        → c ≡ cond b (record { steps = p .steps + 1; exceeded = false; best = bestAt goal cost (length q) (padded 32 noMove q) s (p .best); floor = p .floor }) (record { steps = p .steps; exceeded = true; best = p .best; floor = min (p .floor) cost })
+        → c ≡ cond b (stepped goal cost q s p) (beyond cost p)
         → Idle limit cost c
     go true k is = not-both t (ap (λ (x : Progress). x .exceeded) is)
     go false k is =
@@ -97,7 +113,8 @@ module _ (conditions effects : List (List ℕ)) (costs blocked goal : List ℕ) 
   restFrom n q s k c = foldOver (byRule n q s) c (numbersFrom (k + 1) (limits .count - k))
 
   -- no move is left: the sequence alone is visited
-  pub visits-last : (left : ℕ) (q : Sequence) (s : State) (p : Progress) (cost : ℕ) (c : Progress) → left ≡ 0 → cost ≡ costOf (lentCost costs) q → c ≡ noted goal (limits .«step_limit») cost q s p
+  pub visits-last : (left : ℕ) (q : Sequence) (s : State) (p : Progress) (cost : ℕ) (c : Progress) → left ≡ 0
+      → cost ≡ costOf (lentCost costs) q → c ≡ noted goal (limits .«step_limit») cost q s p
       → c ≡ visits left q s p
   unfolding visitsFrom
   visits-last left q s p cost c e paid is = is ∙ rw (e, paid)
@@ -169,21 +186,29 @@ module _ (conditions effects : List (List ℕ)) (costs blocked goal : List ℕ) 
           ∙ ap (λ b. cond b (visits n (q ++ ((k + 1) ∷ [])) (successor (getD effects k []) s) c) c) e
 
       -- as the functions that look only at the positions tell, where lines and state end in zeros
-      module _ (X : Progress) (h : k < limits .count) (inv : restFrom n q s k c ≡ X) (lent : Lent conditions effects goal limits) (held : EndsAt (limits .positions) s)
-          (goes : Bool) (is : goes ≡ ((leb (cost + getD costs k 0) (limits .«max_cost») && eqb (getD blocked (first + k) 0) 0) && meetsWithin (min (limits .positions) 16) (getD conditions k []) s))
+      module _ (X : Progress) (h : k < limits .count) (inv : restFrom n q s k c ≡ X)
+          (lent : Lent conditions effects goal limits) (held : EndsAt (limits .positions) s) (goes : Bool)
+          (is : goes
+          ≡ ((leb (cost + getD costs k 0) (limits .«max_cost») && eqb (getD blocked (first + k) 0) 0)
+          && meetsWithin (min (limits .positions) 16) (getD conditions k []) s))
         where
           runs : goes ≡ goesBy cost first s k
           runs =
-              goes-within (limits .positions) (getD conditions k []) s (leb (cost + getD costs k 0) (limits .«max_cost») && eqb (getD blocked (first + k) 0) 0) goes
+              goes-within (limits .positions) (getD conditions k []) s
+              (leb (cost + getD costs k 0) (limits .«max_cost») && eqb (getD blocked (first + k) 0) 0) goes
               (lent .positionLimit) (lent .conditionEnds k h) held is
 
           -- a turn that goes on by the rule, and what it finds
           pub turn-taken : goes ≡ true → (longer : Sequence) → longer ≡ q ++ ((k + 1) ∷ [])
-              → (next : State) → next ≡ laidOver (min (limits .positions) 16) (successor (getD effects k []) s) (replicate 16 0)
+              → (next : State) → next ≡ laidOver (min (limits .positions) 16) (successor (getD effects k []) s)
+              (replicate 16 0)
               → (found c′ : Progress) → c′ ≡ found → found ≡ visits n longer next c → restFrom n q s (k + 1) c′ ≡ X
           turn-taken t longer made next led found c′ got e =
-              let there = led-within (limits .positions) (getD effects k []) s next (lent .positionLimit) (lent .effectEnds k h) led in
-              ap (restFrom n q s (k + 1)) (got ∙ e ∙ ap₂ (λ l u. visits n l u c) made there ∙ sym (by-next true (sym runs ∙ t))) ∙ sym (turn n q s k c h) ∙ inv
+              let there = led-within (limits .positions) (getD effects k []) s next (lent .positionLimit)
+              (lent .effectEnds k h) led in
+              ap (restFrom n q s (k + 1))
+              (got ∙ e ∙ ap₂ (λ l u. visits n l u c) made there ∙ sym (by-next true (sym runs ∙ t)))
+              ∙ sym (turn n q s k c h) ∙ inv
 
           -- a turn that does not
           pub turn-left : goes ≡ false → restFrom n q s (k + 1) c ≡ X
@@ -204,8 +229,10 @@ module _ (costs : List ℕ) (limits : Limits) (state plan : List ℕ) (n cost le
         ap (take (n + 1)) made ∙ take-at q (replicate (32 - length q) noMove) (n + 1) (omega (arith, length-append (take n plan) ((k + 1) ∷ []), so-far))
 
     -- the sequence with the rule at place k behind it is reached, with any number of moves to come for which there is room
-    pub reached-next : (conditions effects : List (List ℕ)) (goal : List ℕ) → Lent conditions effects goal limits → k < limits .count
-        → (next : State) → next ≡ laidOver (min (limits .positions) 16) (successor (getD effects k []) state) (replicate 16 0)
+    pub reached-next : (conditions effects : List (List ℕ)) (goal : List ℕ) → Lent conditions effects goal limits
+        → k < limits .count
+        → (next : State) → next ≡ laidOver (min (limits .positions) 16) (successor (getD effects k []) state)
+        (replicate 16 0)
         → (less : ℕ) → n + 1 + less ≤ 32 → Reached costs limits next longer (n + 1) (cost + getD costs k 0) less
     unfolding lentCost
     reached-next conditions effects goal lent h next led less room = record {
@@ -215,7 +242,8 @@ module _ (costs : List ℕ) (limits : Limits) (state plan : List ℕ) (n cost le
       total = sym (ap (costOf (lentCost costs)) plan-next ∙ cost-append (lentCost costs) (take n plan) ((k + 1) ∷ []) ∙ ap₂ _+_ (sym (reached .total)) paid);
       stateEnd =
           let ends = lent .effectEnds k h in
-          rw (led-within (limits .positions) (getD effects k []) state next (lent .positionLimit) ends led) (successor-ends (limits .positions) (getD effects k []) state ends);
+          rw (led-within (limits .positions) (getD effects k []) state next (lent .positionLimit) ends led)
+          (successor-ends (limits .positions) (getD effects k []) state ends);
     }
       where
         paid : costOf (lentCost costs) ((k + 1) ∷ []) ≡ getD costs k 0

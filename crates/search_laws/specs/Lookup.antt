@@ -19,7 +19,10 @@ markedAt m table q = not (eqb (entryAt table (indexOf m q)) kept)
 unfoldable pub suffixMarked : ℕ → List ℕ → Sequence → Bool
 suffixMarked m table q = any (markedAt m table) (suffixes q)
 
--- the look-up of a table of at most three rules: at each index 1 if the table has an entry there and a suffix of its sequence is marked, else 0
+-- the look-up of a table of at most three rules: at each index 1 if the table has an entry there and a suffix of its
+-- sequence is marked, else 0
 abbrev pub LooksUp : ℕ → List ℕ → List ℕ → Type 0
 LooksUp m table blocked =
-    (i : ℕ) → getD blocked i 0 ≡ cond (ltb i (min (length table / 2) (sequenceCount m 3)) && suffixMarked m table (sequenceOf m 3 i)) 1 0
+    (i : ℕ)
+    → getD blocked i 0
+    ≡ cond (ltb i (min (length table / 2) (sequenceCount m 3)) && suffixMarked m table (sequenceOf m 3 i)) 1 0

@@ -65,10 +65,11 @@ noBest = record { found = false; cost = 0; length = 0; moves = replicate 32 noMo
 -- the best plan after one whose n moves stand in an array, which costs so much and has led to the state s
 unfoldable pub bestAt : List ℕ → ℕ → ℕ → List ℕ → State → Best → Best
 bestAt goal cost n moves s best =
-    cond (meetsGoal goal s && replaces best cost n) (record { found = true; cost = cost; length = n; moves = moves }) best
+    cond (meetsGoal goal s && replaces best cost n) (record { found = true; cost = cost; length = n; moves = moves })
+    best
 
--- what visiting a sequence, whose n moves stand in an array, makes of the progress: one step more, if the limit allows it;
--- else the limit is exceeded, and the floor is no higher than the sequence's cost
+-- what visiting a sequence, whose n moves stand in an array, makes of the progress: one step more, if the limit allows
+-- it; else the limit is exceeded, and the floor is no higher than the sequence's cost
 unfoldable pub notedMoves : List ℕ → ℕ → ℕ → ℕ → List ℕ → State → Progress → Progress
 notedMoves goal limit cost n moves s p =
     cond (ltb (p .steps) limit)
@@ -130,7 +131,8 @@ pub record Explored (set : RuleSet) (query : Query) (progress : Progress) : Type
   pub best : length (visitedBy set query) ≤ query .stepLimit → progress .best ≡ asBest (sequenceCost set) (cheapestPlan set query)
   pub floor : progress .floor ≡ leastCost (ruleCost set) 65535 (drop (query .stepLimit) (visitedBy set query))
 
--- what a query comes to: the first cause for which it is refused, if one holds; if none does, the progress of the whole search, else none
+-- what a query comes to: the first cause for which it is refused, if one holds; if none does, the progress of the whole
+-- search, else none
 pub record Explores (set : RuleSet) (query : Query) (exploration : Exploration) : Type 0 where
   pub refused : exploration .refusal ≡ firstRefusal (queryCauses set query)
   pub explored : exploration .refusal ≡ 0 → Explored set query (exploration .progress)

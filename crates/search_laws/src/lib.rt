@@ -25,7 +25,8 @@ pub struct Limits {
     pub step_limit: u32,
 }
 
-// What a query comes to before a plan is shown: the number for which it is refused, or with 0 how far the search has come.
+// What a query comes to before a plan is shown: the number for which it is refused, or with 0 how far the search has
+// come.
 pub struct Exploration {
     pub refusal: u8,
     pub progress: Progress,

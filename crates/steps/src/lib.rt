@@ -1,4 +1,4 @@
-// The states of a search, to the positions only: the start, whether a rule goes on from a state, and where its effect leads.
+// The states of a search, to the positions only: the start, whether a rule goes on, and where its effect leads.
 use states::value;
 ghost use mathlib.Core.Path.{_≡_};
 ghost use mathlib.Core.Bool.{_&&_};
@@ -57,7 +57,9 @@ pub fn goes_on(
     state: &[u8; 16],
 ) -> bool
     ensures { λ r. ⌜
-        r ≡ ((leb total «max_cost» && eqb block 0) && meetsWithin (min positions 16) (now (condition .entry)) (now (state .entry))) ⌝ }
+        r
+        ≡ ((leb total «max_cost» && eqb block 0)
+        && meetsWithin (min positions 16) (now (condition .entry)) (now (state .entry))) ⌝ }
 {
     if block != 0 {
         return false;
@@ -72,7 +74,8 @@ pub fn goes_on(
 // Puts the state that an effect leads to over another one, at the positions.
 pub fn put_after(positions: usize, effect: &[u8; 16], state: &[u8; 16], next: &mut [u8; 16])
     ensures { λ _. ⌜
-        now (next .exit) ≡ laidOver (min positions 16) (successor (now (effect .entry)) (now (state .entry))) (now (next .entry)) ⌝ }
+        now (next .exit)
+        ≡ laidOver (min positions 16) (successor (now (effect .entry)) (now (state .entry))) (now (next .entry)) ⌝ }
 {
     let entries: &[u8] = effect;
     let end = bounded(positions);

@@ -21,7 +21,8 @@ returns c =
     let s = c .before in
     let m = s .args .count in
     let first : 1 ≡ 0 * m + 1 = omega arith in
-    first ∙ ap (λ i. i * m + 1) (sym (last-none m (manyOf s) (take (s .args .depth) (s .args .plan .now)) (omega (arith, c .if1 .taken))))
+    first ∙ ap (λ i. i * m + 1)
+    (sym (last-none m (manyOf s) (take (s .args .depth) (s .args .plan .now)) (omega (arith, c .if1 .taken))))
 
 returns-2 : tie.Need-returns-2
 returns-2 c =
@@ -37,19 +38,26 @@ abbrev startOf : tie.After-moves-of → tie.Start
 startOf c = c .before .before .before .before
 
 -- the moves that count are one or more, and no more than there are
-counted : (c : tie.After-moves-of) → (1 ≤ c .moves-of .result) × (c .moves-of .result ≤ length (startOf c .args .plan .now))
-counted c =
-    (omega (arith, c .moves-of .ensures, c .before .before .if2 .left), omega (arith, c .moves-of .ensures, c .before .moves .given .0))
+counted : (c : tie.After-moves-of)
+    → (1 ≤ c .moves-of .result) × (c .moves-of .result ≤ length (startOf c .args .plan .now))
+counted c = (
+  omega (arith, c .moves-of .ensures, c .before .before .if2 .left),
+  omega (arith, c .moves-of .ensures, c .before .moves .given .0),
+)
 
 -- and are the sequence
-same-moves : (c : tie.After-moves-of) → let s = startOf c .args in take (c .moves-of .result) (s .plan .now) ≡ take (s .depth) (s .plan .now)
+same-moves : (c : tie.After-moves-of)
+    → let s = startOf c .args in take (c .moves-of .result) (s .plan .now) ≡ take (s .depth) (s .plan .now)
 same-moves c =
     let s = startOf c .args in
-    ap (λ n. take n (s .plan .now)) (c .moves-of .ensures ∙ ap (min (s .depth)) (sym (c .before .moves .given .0))) ∙ take-within (s .depth) (s .plan .now)
+    ap (λ n. take n (s .plan .now)) (c .moves-of .ensures ∙ ap (min (s .depth)) (sym (c .before .moves .given .0)))
+    ∙ take-within (s .depth) (s .plan .now)
 
 -- the place that the index of its last rules gives
-placed : (c : tie.After-moves-of) → let s = startOf c in (i : ℕ) → i ≡ indexOf (s .args .count) (last (manyOf s) (take (c .moves-of .result) (s .args .plan .now)))
-    → i * s .args .count + 1 ≡ indexOf (s .args .count) (last (manyOf s) (take (s .args .depth) (s .args .plan .now))) * s .args .count + 1
+placed : (c : tie.After-moves-of) → let s = startOf c in (i : ℕ)
+    → i ≡ indexOf (s .args .count) (last (manyOf s) (take (c .moves-of .result) (s .args .plan .now)))
+    → i * s .args .count + 1 ≡ indexOf (s .args .count) (last (manyOf s) (take (s .args .depth) (s .args .plan .now)))
+    * s .args .count + 1
 placed c i e =
     let s = startOf c in
     ap (λ j. j * s .args .count + 1) (e ∙ ap (λ q. indexOf (s .args .count) (last (manyOf s) q)) (same-moves c))
@@ -67,7 +75,8 @@ cast-newest c = omega (arith, c .shared-slice-known .given (c .before .moves-of 
 small : (c : tie.After-shared-slice-known)
     → let s = startOf (c .before) .args in
     let d = c .before .moves-of .result in
-    (getD (s .plan .now) (d - 1) 0 * s .count ≤ 65025) × (getD (s .plan .now) (d - 2) 0 * s .count ≤ 65025) × (getD (s .plan .now) (d - 1) 0 ≤ 255)
+    (getD (s .plan .now) (d - 1) 0 * s .count ≤ 65025) × (getD (s .plan .now) (d - 2) 0 * s .count ≤ 65025)
+    × (getD (s .plan .now) (d - 1) 0 ≤ 255)
     × ((getD (s .plan .now) (d - 2) 0 * s .count + getD (s .plan .now) (d - 1) 0) * s .count ≤ 16646400)
 small c =
     let s = startOf (c .before) in
@@ -76,8 +85,13 @@ small c =
     let bytes = c .shared-slice-known .given in
     let newest : getD plan (d - 1) 0 ≤ 255 = omega (arith, bytes (d - 1)) in
     let before : getD plan (d - 2) 0 ≤ 255 = omega (arith, bytes (d - 2)) in
-    let rules : s .args .count ≤ 255 = omega (arith, s .fits .count) in
-    (places-small (getD plan (d - 1) 0) 0 (s .args .count) newest (omega arith) rules .0, places-small (getD plan (d - 2) 0) 0 (s .args .count) before (omega arith) rules .0, newest, places-small (getD plan (d - 2) 0) (getD plan (d - 1) 0) (s .args .count) before newest rules .1)
+    let rules : s .args .count ≤ 255 = omega (arith, s .fits .count) in (
+      places-small (getD plan (d - 1) 0) 0 (s .args .count) newest (omega arith) rules .0,
+      places-small (getD plan (d - 2) 0) 0 (s .args .count) before (omega arith) rules .0,
+      newest,
+      places-small (getD plan (d - 2) 0)
+          (getD plan (d - 1) 0) (s .args .count) before newest rules .1,
+    )
 
 mul-result : tie.Need-mul-result
 mul-result c = omega (arith, small (c .before))
@@ -94,7 +108,8 @@ returns-3 c =
     let d = call .moves-of .result in
     let plan = s .args .plan .now in
     let alone = last-none m (n - 1) (take (d - 1) plan) (omega (arith, c .if3 .taken)) in
-    placed call (getD plan (d - 1) 0) (last-one m n d plan (omega (arith, c .if3 .taken)) (counted call .0) (counted call .1) alone)
+    placed call (getD plan (d - 1) 0)
+    (last-one m n d plan (omega (arith, c .if3 .taken)) (counted call .0) (counted call .1) alone)
 
 mul-result-2 : tie.Need-mul-result-2
 mul-result-2 c = omega (arith, small (c .before .before))
@@ -115,7 +130,8 @@ returns-4 c =
     placed call (getD plan (d - 1) 0) (last-one m n d plan more (counted call .0) (counted call .1) alone)
 
 sub-before : tie.Need-sub-before
-sub-before c = omega (arith, c .before .before .before .moves-of .ensures, c .if4 .left, counted (c .before .before .before))
+sub-before c =
+    omega (arith, c .before .before .before .moves-of .ensures, c .if4 .left, counted (c .before .before .before))
 
 shared-slice-read-before : tie.Need-shared-slice-read-before
 shared-slice-read-before c = omega (arith, counted (c .before .before .before .before))
@@ -144,7 +160,8 @@ returns-5 c =
     let plan = s .args .plan .now in
     let both : manyOf s ≡ 2 = omega (arith, call .before .before .before .if1 .left, c .before .before .if3 .left) in
     let more : 2 ≤ d = omega (arith, call .moves-of .ensures, c .before .if4 .left, counted call) in
-    placed call (getD plan (d - 2) 0 * m + getD plan (d - 1) 0) (last-two m (manyOf s) d plan both more (counted call .1))
+    placed call (getD plan (d - 2) 0 * m + getD plan (d - 1) 0)
+    (last-two m (manyOf s) d plan both more (counted call .1))
 
 pub first-place-spec : {M : Type 1} → statement M
 first-place-spec =

@@ -13,7 +13,8 @@ use Rattle.theory_spec.proofs.ListLaws.{zeros-at}
 use Rattle.tables_spec.specs.Table.{sequenceCount, kept, entryAt}
 use Rattle.tables_spec.proofs.CountLaws.{count-bound}
 use Rattle.search_laws.specs.Lookup.{LooksUp}
-use Rattle.search_laws.proofs.LookupLaws.{LooksUpTo, BlankFrom, look-up-start, some-rule, look-up-more, blank-more, look-up-whole}
+use Rattle.search_laws.proofs.LookupLaws.{LooksUpTo, BlankFrom, look-up-start, some-rule, look-up-more, blank-more}
+use Rattle.search_laws.proofs.LookupLaws.{look-up-whole}
 use Rattle.lookup.proofs.lookup_of.Statement.{statement}
 use Rattle.lookup.proofs.lookup_of.Tie as tie
 
@@ -35,8 +36,13 @@ smaller-requires c κs = search needs
 
 loop-holds : tie.Need-loop-holds Inv-loop μ-loop
 loop-holds c =
-    let s = c .before .before .before .before in
-    (omega arith, length-replicate {A = ℕ} 30784 0, look-up-start (c .before .before .rules-of .result) (s .args .table .now) 30784, λ j h. zeros-at 30784 j)
+    let s = c .before .before .before .before in (
+      omega arith,
+      length-replicate {A = ℕ} 30784 0,
+      look-up-start (c .before .before .rules-of .result)
+          (s .args .table .now) 30784,
+      λ j h. zeros-at 30784 j,
+    )
 
 cast-tail-index : tie.Need-cast-tail-index Inv-loop μ-loop
 cast-tail-index c = search needs
@@ -48,8 +54,11 @@ abbrev rulesOf : tie.At-loop Inv-loop μ-loop → ℕ
 rulesOf l = l .before .before .before .rules-of .result
 
 -- the places that are filled
-end-is : (l : tie.At-loop Inv-loop μ-loop) → l .before .smaller .result ≡ min (length (startOf l .args .table .now) / 2) (sequenceCount (rulesOf l) 3)
-end-is l = l .before .smaller .ensures ∙ ap (min (length (startOf l .args .table .now) / 2)) (l .before .before .sequence-count .ensures)
+end-is : (l : tie.At-loop Inv-loop μ-loop)
+    → l .before .smaller .result ≡ min (length (startOf l .args .table .now) / 2) (sequenceCount (rulesOf l) 3)
+end-is l =
+    l .before .smaller .ensures ∙ ap (min (length (startOf l .args .table .now) / 2))
+    (l .before .before .sequence-count .ensures)
 
 -- a turn's place is one of a sequence of at most three rules
 inside : (turn : tie.In-loop Inv-loop μ-loop) → turn .before .loop .i < sequenceCount (rulesOf (turn .before)) 3
@@ -65,8 +74,12 @@ near turn = omega (arith, inside turn, count-bound (rulesOf (turn .before)) 3 (f
 
 tail-index-requires : tie.Need-tail-index-requires Inv-loop μ-loop
 tail-index-requires c κs =
-    let l = c .before in
-    (some-rule (rulesOf l) (l .loop .i) (sequenceCount (rulesOf l) 3) (l .loop .inv .0) (inside c) (omega arith), few l, l .loop .inv .0, inside c)
+    let l = c .before in (
+      some-rule (rulesOf l) (l .loop .i) (sequenceCount (rulesOf l) 3) (l .loop .inv .0) (inside c) (omega arith),
+      few l,
+      l .loop .inv .0,
+      inside c,
+    )
 
 array-read-block : tie.Need-array-read-block Inv-loop μ-loop
 array-read-block c = omega (arith, near (c .before), c .tail-index .ensures .1)
@@ -95,10 +108,12 @@ loop-again c =
     let writes : Bool → ℕ = λ b. cond b 1 (getD blocked (tail .result) 0) in
     let write : c .if1 .block ≡ writes (not (eqb (entryAt table i) kept)) =
     ⊎-elim (λ w. w .1 ∙ ap (λ b. writes (not b)) (sym (ne-eqb (entryAt table i) kept (λ k. w .0 .taken (entry ∙ k)))))
-    (λ w. w .1 ∙ ap (λ b. writes (not b)) (sym (eq-eqb (entryAt table i) kept (sym entry ∙ w .0 .left)))) (c .if1 .came) in (
+    (λ w. w .1 ∙ ap (λ b. writes (not b)) (sym (eq-eqb (entryAt table i) kept (sym entry ∙ w .0 .left)))) (c .if1 .came)
+    in (
       omega (arith, l .loop .inv .0),
       length-set blocked _ _ ∙ l .loop .inv .1,
-      look-up-more (rulesOf l) table blocked i (tail .result) (c .if1 .block) (inside turn) (l .loop .inv .0) (omega (arith, near turn, l .loop .inv .1)) (l .loop .inv .2) (tail .ensures .0) (tail .ensures .1) write,
+      look-up-more (rulesOf l) table blocked i (tail .result) (c .if1 .block) (inside turn) (l .loop .inv .0)
+          (omega (arith, near turn, l .loop .inv .1)) (l .loop .inv .2) (tail .ensures .0) (tail .ensures .1) write,
       blank-more blocked i (l .before .smaller .result) (c .if1 .block) (turn .loop-test .taken) (l .loop .inv .3),
     )
 
@@ -107,7 +122,8 @@ returns c =
     let l = c .before in
     let table = startOf l .args .table .now in
     subst (λ m. LooksUp m table (l .loop .blocked)) (l .before .before .before .rules-of .ensures)
-    (look-up-whole (rulesOf l) table (l .loop .blocked) (l .loop .i) (l .before .smaller .result) (end-is l) (c .loop-test .left) (l .loop .inv .2) (l .loop .inv .3))
+    (look-up-whole (rulesOf l) table (l .loop .blocked) (l .loop .i) (l .before .smaller .result) (end-is l)
+    (c .loop-test .left) (l .loop .inv .2) (l .loop .inv .3))
 
 pub lookup-of-spec : {M : Type 1} → statement M
 lookup-of-spec =

@@ -1,4 +1,5 @@
--- `plans::meets_goal` meets its contract. The invariant: the bytes from place i on, of the goal's first sixteen, decide the whole.
+-- `plans::meets_goal` meets its contract. The invariant: the bytes from place i on, of the goal's first sixteen, decide
+-- the whole.
 -- Assumes nothing.
 use mathlib.Core.Path.{_≡_, ap, _∙_}
 use mathlib.Core.Logic.{⊎-elim}
@@ -20,7 +21,8 @@ use Rattle.plans.proofs.meets_goal.Tie as tie
 abbrev Inv-loop : tie.InvT-loop
 Inv-loop goal state held end i₀ i =
     (i ≤ end) × (end ≡ length (take 16 goal))
-    × (every (λ j. eqb (getD (take 16 goal) j 0) 255 || eqb (getD state j 0) (getD (take 16 goal) j 0)) (numbersFrom i (length (take 16 goal) - i))
+    × (every (λ j. eqb (getD (take 16 goal) j 0) 255 || eqb (getD state j 0) (getD (take 16 goal) j 0))
+    (numbersFrom i (length (take 16 goal) - i))
     ≡ meetsGoal (take 16 goal) state)
 
 abbrev μ-loop : tie.MeasureT-loop
@@ -53,7 +55,9 @@ inside : (turn : tie.In-loop Inv-loop μ-loop) → turn .before .loop .i < lengt
 inside turn = omega (arith, turn .loop-test .taken, turn .before .loop .inv .1)
 
 -- where the goal holds what these hold
-wanted : (turn : tie.In-loop Inv-loop μ-loop) → let goal = startOf turn .args .goal .now in getD (take 16 goal) (turn .before .loop .i) 0 ≡ getD goal (turn .before .loop .i) 0
+wanted : (turn : tie.In-loop Inv-loop μ-loop)
+    → let goal = startOf turn .args .goal .now in
+    getD (take 16 goal) (turn .before .loop .i) 0 ≡ getD goal (turn .before .loop .i) 0
 wanted turn =
     let goal = startOf turn .args .goal .now in
     getD-take 16 goal (turn .before .loop .i) 0 (omega (arith, inside turn, length-take 16 goal))
@@ -61,7 +65,8 @@ wanted turn =
 returns : tie.Need-returns Inv-loop μ-loop
 returns c =
     let turn = c .before .before .before .before .before in
-    every-stop _ _ _ _ (turn .before .loop .inv .2) (inside turn) (rw (wanted turn, ne-eqb _ _ (c .before .before .before .if1 .taken), ne-eqb _ _ (c .if2 .taken)))
+    every-stop _ _ _ _ (turn .before .loop .inv .2) (inside turn)
+    (rw (wanted turn, ne-eqb _ _ (c .before .before .before .if1 .taken), ne-eqb _ _ (c .if2 .taken)))
 
 add-i : tie.Need-add-i Inv-loop μ-loop
 add-i c = search needs
@@ -76,7 +81,8 @@ loop-again c =
     let s = startOf turn .args in
     let goal = getD (s .goal .now) (l .i) 0 in
     let held = getD (s .state .now) (l .i) 0 in
-    let passes = ⊎-elim (λ w. or-right (eqb goal 255) (eq-eqb held goal (w .3 .left))) (λ w. or-left (eqb held goal) (eq-eqb goal 255 (w .left))) (c .if1 .came) in (
+    let passes = ⊎-elim (λ w. or-right (eqb goal 255) (eq-eqb held goal (w .3 .left)))
+    (λ w. or-left (eqb held goal) (eq-eqb goal 255 (w .left))) (c .if1 .came) in (
       omega (arith, turn .loop-test .taken),
       l .inv .1,
       every-go _ _ _ _ (l .inv .2) (inside turn) (ap (λ n. eqb n 255 || eqb held n) (wanted turn) ∙ passes),
@@ -85,7 +91,8 @@ loop-again c =
 returns-2 : tie.Need-returns-2 Inv-loop μ-loop
 returns-2 c =
     let l = c .before .loop in
-    let all : length (take 16 (c .before .before .before .before .before .args .goal .now)) ≤ l .i = omega (arith, c .loop-test .left, l .inv .1) in
+    let goal = c .before .before .before .before .before .args .goal .now in
+    let all : length (take 16 goal) ≤ l .i = omega (arith, c .loop-test .left, l .inv .1) in
     every-end _ _ _ _ (l .inv .2) all
 
 pub meets-goal-spec : {M : Type 1} → statement M

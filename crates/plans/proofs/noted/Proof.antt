@@ -28,14 +28,22 @@ unfolding notedMoves bestAt
 returns-2 c =
     let met = c .before .before .before in
     let few = met .before .before .before in
-    rw (lt-ltb _ _ (few .if1 .left), sym (met .before .meets-goal .ensures) ∙ met .if2 .taken, sym (c .before .before .replaces .ensures) ∙ c .before .if3 .taken)
+    rw (
+      lt-ltb _ _ (few .if1 .left),
+      sym (met .before .meets-goal .ensures) ∙ met .if2 .taken,
+      sym (c .before .before .replaces .ensures) ∙ c .before .if3 .taken,
+    )
 
 returns-3 : tie.Need-returns-3
 unfolding notedMoves bestAt
 returns-3 c =
     let met = c .before .before in
     let few = met .before .before .before in
-    rw (lt-ltb _ _ (few .if1 .left), sym (met .before .meets-goal .ensures) ∙ met .if2 .taken, sym (c .before .replaces .ensures) ∙ c .if3 .left)
+    rw (
+      lt-ltb _ _ (few .if1 .left),
+      sym (met .before .meets-goal .ensures) ∙ met .if2 .taken,
+      sym (c .before .replaces .ensures) ∙ c .if3 .left,
+    )
 
 returns-4 : tie.Need-returns-4
 unfolding notedMoves bestAt

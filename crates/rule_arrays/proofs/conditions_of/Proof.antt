@@ -11,7 +11,8 @@ use Rattle.rule_arrays.proofs.conditions_of.Statement.{statement}
 use Rattle.rule_arrays.proofs.conditions_of.Tie as tie
 
 abbrev Inv-loop : tie.InvT-loop
-Inv-loop set conditions₀ i₀ conditions i = (i ≤ 31) × (conditions ≡ copied conditions₀ (map (λ rule. rule .condition) (set .rules)) i)
+Inv-loop set conditions₀ i₀ conditions i =
+    (i ≤ 31) × (conditions ≡ copied conditions₀ (map (λ rule. rule .condition) (set .rules)) i)
 
 abbrev μ-loop : tie.MeasureT-loop
 μ-loop set conditions₀ i₀ conditions i = 31 - i
@@ -40,14 +41,18 @@ loop-less c = search needs
 loop-again : tie.Need-loop-again Inv-loop μ-loop
 loop-again c =
     let start = c .before .before .before .before in
-    let l = c .before .before .before .loop in
-    (search needs, row-more (λ rule. rule .condition) _ (start .args .t1 .rules) (l .i) (l .conditions) (l .inv .1) _ (omega arith) (omega (arith, rules-31 (start .args .t1) _ (start .good .0))))
+    let l = c .before .before .before .loop in (
+      search needs,
+      row-more (λ rule. rule .condition) _ (start .args .t1 .rules) (l .i) (l .conditions) (l .inv .1) _
+          (omega arith) (omega (arith, rules-31 (start .args .t1) _ (start .good .0))),
+    )
 
 returns : tie.Need-returns Inv-loop μ-loop
 returns c =
     let start = c .before .before in
     let l = c .before .loop in
-    row-whole (λ rule. rule .condition) _ (start .args .t1 .rules) (l .i) (l .conditions) (l .inv .1) (omega arith) (omega (arith, rules-31 (start .args .t1) _ (start .good .0)))
+    row-whole (λ rule. rule .condition) _ (start .args .t1 .rules) (l .i) (l .conditions) (l .inv .1) (omega arith)
+    (omega (arith, rules-31 (start .args .t1) _ (start .good .0)))
 
 pub conditions-of-spec : {M : Type 1} → statement M
 conditions-of-spec =

@@ -40,14 +40,18 @@ loop-less c = search needs
 loop-again : tie.Need-loop-again Inv-loop μ-loop
 loop-again c =
     let start = c .before .before .before .before in
-    let l = c .before .before .before .loop in
-    (search needs, row-more (λ rule. rule .effect) _ (start .args .t1 .rules) (l .j) (l .effects) (l .inv .1) _ (omega arith) (omega (arith, rules-31 (start .args .t1) _ (start .good .0))))
+    let l = c .before .before .before .loop in (
+      search needs,
+      row-more (λ rule. rule .effect) _ (start .args .t1 .rules) (l .j) (l .effects) (l .inv .1) _
+          (omega arith) (omega (arith, rules-31 (start .args .t1) _ (start .good .0))),
+    )
 
 returns : tie.Need-returns Inv-loop μ-loop
 returns c =
     let start = c .before .before in
     let l = c .before .loop in
-    row-whole (λ rule. rule .effect) _ (start .args .t1 .rules) (l .j) (l .effects) (l .inv .1) (omega arith) (omega (arith, rules-31 (start .args .t1) _ (start .good .0)))
+    row-whole (λ rule. rule .effect) _ (start .args .t1 .rules) (l .j) (l .effects) (l .inv .1) (omega arith)
+    (omega (arith, rules-31 (start .args .t1) _ (start .good .0)))
 
 pub effects-of-spec : {M : Type 1} → statement M
 effects-of-spec =

@@ -12,7 +12,8 @@ use Rattle.search_spec.specs.Query.{Query, asked}
 use Rattle.search_spec.specs.Searched.{queryCauses, noMove}
 use Rattle.search_spec.proofs.OutcomeLaws.{withoutPlan, searched-refused}
 use Rattle.search_laws.specs.Visits.{Explored, Explores}
-use Rattle.search_laws.proofs.AnswerLaws.{leftWith, answers, explored-limited, explored-unsolvable, explored-room, explored-solved}
+use Rattle.search_laws.proofs.AnswerLaws.{leftWith, answers, explored-limited, explored-unsolvable, explored-room}
+use Rattle.search_laws.proofs.AnswerLaws.{explored-solved}
 use Rattle.search.proofs.search.Statement.{statement}
 use Rattle.search.proofs.search.Tie as tie
 
@@ -32,18 +33,22 @@ abbrev startOf : tie.After-explored → tie.Start
 startOf c = c .before .before .before .before .before .before .before .before .before
 
 -- the buffer is blank
-blank : (c : tie.After-explored) → c .before .before .before .fill-from .last .0 ≡ replicate (length (startOf c .args .plan .now)) noMove
+blank : (c : tie.After-explored)
+    → c .before .before .before .fill-from .last .0 ≡ replicate (length (startOf c .args .plan .now)) noMove
 blank c = c .before .before .before .fill-from .ensures ∙ filled-whole noMove (startOf c .args .plan .now)
 
 -- of the length that it had
-sized : (c : tie.After-explored) → length (c .before .before .before .fill-from .last .0) ≡ length (startOf c .args .plan .now)
+sized : (c : tie.After-explored)
+    → length (c .before .before .before .fill-from .last .0) ≡ length (startOf c .args .plan .now)
 sized c = ap length (blank c) ∙ length-replicate (length (startOf c .args .plan .now)) noMove
 
 -- and the query is judged, and explored
 explores : (c : tie.After-explored) → Explores (startOf c .args .set) (queryOf (startOf c)) (c .explored .result)
 explores c =
     let a = startOf c .args in
-    subst (λ n. Explores (a .set) (asked (a .reach) (a .table .now) (a .start .now) (a .goal .now) (a .max-moves) (a .max-cost) (a .step-limit) n) (c .explored .result)) (sized c)
+    subst (λ n. Explores (a .set)
+    (asked (a .reach) (a .table .now) (a .start .now) (a .goal .now) (a .max-moves) (a .max-cost) (a .step-limit) n)
+    (c .explored .result)) (sized c)
     (c .explored .ensures)
 
 without-plan-requires : tie.Need-without-plan-requires
@@ -58,17 +63,21 @@ returns c =
     let s = startOf judged in
     let e = explores judged .refused in
     let refused = searched-refused (s .args .set) (queryOf s) (λ k. c .before .if1 .taken (e ∙ k)) in
-    answers (s .args .set) (queryOf s) _ _ (withoutPlan (s .args .set) (queryOf s) (judged .explored .result .refusal) 0) (c .without-plan .ensures) (blank judged)
+    answers (s .args .set) (queryOf s) _ _
+    (withoutPlan (s .args .set) (queryOf s) (judged .explored .result .refusal) 0) (c .without-plan .ensures)
+    (blank judged)
     (ap (λ n. withoutPlan (s .args .set) (queryOf s) n 0) e ∙ sym refused)
 
 -- past the first return, the query is not refused
 abbrev judgedAt : tie.Else1 → tie.After-explored
 judgedAt c = c .before .before
 
-unrefused : (c : tie.Else1) → firstRefusal (queryCauses (startOf (judgedAt c) .args .set) (queryOf (startOf (judgedAt c)))) ≡ 0
+unrefused : (c : tie.Else1)
+    → firstRefusal (queryCauses (startOf (judgedAt c) .args .set) (queryOf (startOf (judgedAt c)))) ≡ 0
 unrefused c = sym (explores (judgedAt c) .refused) ∙ c .if1 .left
 
-visited : (c : tie.Else1) → let s = startOf (judgedAt c) in Explored (s .args .set) (queryOf s) (judgedAt c .explored .result .progress)
+visited : (c : tie.Else1)
+    → let s = startOf (judgedAt c) in Explored (s .args .set) (queryOf s) (judgedAt c .explored .result .progress)
 visited c = explores (judgedAt c) .explored (c .if1 .left)
 
 without-plan-requires-2 : tie.Need-without-plan-requires-2
@@ -82,7 +91,8 @@ returns-2 c =
     let posed = c .before .before .before in
     let judged = judgedAt posed in
     let s = startOf judged in
-    let found = explored-limited (s .args .set) (queryOf s) (unrefused posed) (judged .explored .result .progress) (visited posed) (c .before .if2 .taken) in
+    let found = explored-limited (s .args .set) (queryOf s) (unrefused posed) (judged .explored .result .progress)
+    (visited posed) (c .before .if2 .taken) in
     answers (s .args .set) (queryOf s) _ _ _ (c .without-plan2 .ensures) (blank judged) found
 
 without-plan-requires-3 : tie.Need-without-plan-requires-3
@@ -99,7 +109,8 @@ returns-3 c =
     let s = startOf judged in
     let progress = judged .explored .result .progress in
     let none = not-true (progress .best .found) (c .before .if3 .taken) in
-    let found = explored-unsolvable (s .args .set) (queryOf s) (unrefused posed) progress (visited posed) (under .if2 .left) none in
+    let found = explored-unsolvable (s .args .set) (queryOf s) (unrefused posed) progress (visited posed)
+    (under .if2 .left) none in
     answers (s .args .set) (queryOf s) _ _ _ (c .without-plan3 .ensures) (blank judged) found
 
 -- past the third, a plan is found
@@ -117,7 +128,8 @@ put-moves-requires c κs =
     let judged = judgedAt posed in
     let s = startOf judged in
     let progress = judged .explored .result .progress in
-    let room = explored-room (s .args .set) (queryOf s) (unrefused posed) progress (visited posed) (under .if2 .left) (plan-found solved) in
+    let room = explored-room (s .args .set) (queryOf s) (unrefused posed) progress (visited posed) (under .if2 .left)
+    (plan-found solved) in
     (room .0, subst (λ n. progress .best .length ≤ n) (sym (sized judged)) (room .1))
 
 same-length-4 : tie.Need-same-length-4
@@ -133,7 +145,8 @@ returns-4 c =
     let s = startOf judged in
     let progress = judged .explored .result .progress in
     let buffer = judged .before .before .before .fill-from .last .0 in
-    let found = explored-solved (s .args .set) (queryOf s) (unrefused posed) progress (visited posed) (under .if2 .left) (plan-found solved) buffer (blank judged) in
+    let found = explored-solved (s .args .set) (queryOf s) (unrefused posed) progress (visited posed) (under .if2 .left)
+    (plan-found solved) buffer (blank judged) in
     answers (s .args .set) (queryOf s) _ _ (leftWith (progress .best) (progress .steps) buffer) refl (put .put-moves .ensures) found
 
 pub search-spec : {M : Type 1} → statement M

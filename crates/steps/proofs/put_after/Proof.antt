@@ -1,4 +1,5 @@
--- `steps::put_after` meets its contract. The invariant: the first i places hold the values of the effect's entries, the others what they held.
+-- `steps::put_after` meets its contract. The invariant: the first i places hold the values of the effect's entries, the
+-- others what they held.
 -- Assumes nothing.
 use mathlib.Core.Path.{_≡_, sym, _∙_}
 use Prim.Native.Nat.{_≤_, _<_, _-_, min}
@@ -13,7 +14,8 @@ use Rattle.steps.proofs.put_after.Statement.{statement}
 use Rattle.steps.proofs.put_after.Tie as tie
 
 abbrev Inv-loop : tie.InvT-loop
-Inv-loop positions effect state next₀ entries end i₀ next i = (i ≤ end) × (next ≡ laidOver i (successor effect state) next₀)
+Inv-loop positions effect state next₀ entries end i₀ next i =
+    (i ≤ end) × (next ≡ laidOver i (successor effect state) next₀)
 
 abbrev μ-loop : tie.MeasureT-loop
 μ-loop positions effect state next₀ entries end i₀ next i = end - i
@@ -47,16 +49,20 @@ loop-again c =
     let effect = start .args .effect .now in
     let state = start .args .state .now in
     let near : l .loop .i < 16 = omega (arith, turn .loop-test .taken, l .before .bounded .ensures) in
-    let long : length (successor effect state) ≡ 16 = successor-length effect state ∙ l .before .before .entries .given .0 in (
+    let sixteen = l .before .before .entries .given .0 in
+    let long : length (successor effect state) ≡ 16 = successor-length effect state ∙ sixteen in (
       omega (arith, turn .loop-test .taken),
-      laid-more (l .loop .i) (successor effect state) (start .args .next .now) _ _ (omega (arith, near, long)) (l .loop .inv .1)
+      laid-more (l .loop .i) (successor effect state) (start .args .next .now) _ _ (omega (arith, near, long))
+          (l .loop .inv .1)
           (c .value .ensures ∙ sym (successor-at effect state (l .loop .i))),
     )
 
 returns : tie.Need-returns Inv-loop μ-loop
 returns c =
     let l = c .before in
-    let all : l .loop .i ≡ min (l .before .before .before .args .positions) 16 = omega (arith, c .loop-test .left, l .loop .inv .0, l .before .bounded .ensures) in
+    let positions = l .before .before .before .args .positions in
+    let all : l .loop .i ≡ min positions 16 =
+    omega (arith, c .loop-test .left, l .loop .inv .0, l .before .bounded .ensures) in
     l .loop .inv .1 ∙ rw all
 
 pub put-after-spec : {M : Type 1} → statement M

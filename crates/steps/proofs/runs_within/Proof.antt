@@ -1,4 +1,5 @@
--- `steps::runs_within` meets its contract. The invariant: what is left of the condition and the state from place i on, to the positions, decides the whole.
+-- `steps::runs_within` meets its contract. The invariant: what is left of the condition and the state from place i on,
+-- to the positions, decides the whole.
 -- Assumes nothing.
 use mathlib.Core.Path.{_≡_, refl, sym, ap, _∙_}
 use mathlib.Core.List.{map}
@@ -17,7 +18,8 @@ use Rattle.steps.proofs.runs_within.Tie as tie
 abbrev Inv-loop : tie.InvT-loop
 Inv-loop positions condition state entries held end i₀ i =
     (i ≤ end) × (end ≡ min positions 16)
-    × (same (map (λ e. valueOf e state) (drop i (take end condition))) (drop i (take end state)) ≡ meetsWithin end condition state)
+    × (same (map (λ e. valueOf e state) (drop i (take end condition))) (drop i (take end state))
+    ≡ meetsWithin end condition state)
 
 abbrev μ-loop : tie.MeasureT-loop
 μ-loop positions condition state entries held end i₀ i = end - i
@@ -47,28 +49,48 @@ endOf turn = turn .before .before .bounded .result
 -- the place of a turn is one of the positions
 inside : (turn : tie.In-loop Inv-loop μ-loop)
     → let s = startOf turn .args in
-    (turn .before .loop .i < length (take (endOf turn) (s .condition .now))) × (turn .before .loop .i < length (take (endOf turn) (s .state .now)))
+    (turn .before .loop .i < length (take (endOf turn) (s .condition .now)))
+    × (turn .before .loop .i < length (take (endOf turn) (s .state .now)))
 inside turn =
     let s = startOf turn .args in
     let l = turn .before .loop in
     let end = endOf turn in (
-      omega (arith, turn .loop-test .taken, l .inv .1, length-take end (s .condition .now), turn .before .before .before .before .entries .given .0),
-      omega (arith, turn .loop-test .taken, l .inv .1, length-take end (s .state .now), turn .before .before .before .held .given .0),
+      omega (
+        arith,
+        turn .loop-test .taken,
+        l .inv .1,
+        length-take end (s .condition .now),
+        turn .before .before .before .before .entries .given .0,
+      ),
+      omega (
+        arith,
+        turn .loop-test .taken,
+        l .inv .1,
+        length-take end (s .state .now),
+        turn .before .before .before .held .given .0,
+      ),
     )
 
 -- and holds what it holds in the whole lists
-condition-there : (turn : tie.In-loop Inv-loop μ-loop) → let condition = startOf turn .args .condition .now in getD (take (endOf turn) condition) (turn .before .loop .i) 0 ≡ getD condition (turn .before .loop .i) 0
-condition-there turn = getD-take (endOf turn) (startOf turn .args .condition .now) (turn .before .loop .i) 0 (turn .loop-test .taken)
+condition-there : (turn : tie.In-loop Inv-loop μ-loop)
+    → let condition = startOf turn .args .condition .now in
+    getD (take (endOf turn) condition) (turn .before .loop .i) 0 ≡ getD condition (turn .before .loop .i) 0
+condition-there turn =
+    getD-take (endOf turn) (startOf turn .args .condition .now) (turn .before .loop .i) 0 (turn .loop-test .taken)
 
-state-there : (turn : tie.In-loop Inv-loop μ-loop) → let state = startOf turn .args .state .now in getD (take (endOf turn) state) (turn .before .loop .i) 0 ≡ getD state (turn .before .loop .i) 0
-state-there turn = getD-take (endOf turn) (startOf turn .args .state .now) (turn .before .loop .i) 0 (turn .loop-test .taken)
+state-there : (turn : tie.In-loop Inv-loop μ-loop)
+    → let state = startOf turn .args .state .now in
+    getD (take (endOf turn) state) (turn .before .loop .i) 0 ≡ getD state (turn .before .loop .i) 0
+state-there turn =
+    getD-take (endOf turn) (startOf turn .args .state .now) (turn .before .loop .i) 0 (turn .loop-test .taken)
 
 returns : tie.Need-returns Inv-loop μ-loop
 returns c =
     let turn = c .before .before .before .before in
     let s = startOf turn .args in
     let f : ℕ → ℕ = λ e. valueOf e (s .state .now) in
-    same-stop f (take (endOf turn) (s .condition .now)) (take (endOf turn) (s .state .now)) (turn .before .loop .i) _ (turn .before .loop .inv .2) (inside turn .0) (inside turn .1)
+    same-stop f (take (endOf turn) (s .condition .now)) (take (endOf turn) (s .state .now)) (turn .before .loop .i) _
+    (turn .before .loop .inv .2) (inside turn .0) (inside turn .1)
     (λ e. c .if1 .taken (c .before .before .value .ensures ∙ sym (ap f (condition-there turn)) ∙ e ∙ state-there turn))
     ∙ ap (λ n. meetsWithin n (s .condition .now) (s .state .now)) (turn .before .loop .inv .1)
 
@@ -83,10 +105,12 @@ loop-again c =
     let turn = c .before .before .before .before in
     let s = startOf turn .args in
     let f : ℕ → ℕ = λ e. valueOf e (s .state .now) in
-    let agrees = ap f (condition-there turn) ∙ sym (c .before .before .value .ensures) ∙ c .if1 .left ∙ sym (state-there turn) in (
+    let agrees =
+    ap f (condition-there turn) ∙ sym (c .before .before .value .ensures) ∙ c .if1 .left ∙ sym (state-there turn) in (
       omega (arith, turn .loop-test .taken),
       turn .before .loop .inv .1,
-      same-go f (take (endOf turn) (s .condition .now)) (take (endOf turn) (s .state .now)) (turn .before .loop .i) _ (turn .before .loop .inv .2) (inside turn .0) (inside turn .1) agrees,
+      same-go f (take (endOf turn) (s .condition .now)) (take (endOf turn) (s .state .now)) (turn .before .loop .i) _
+          (turn .before .loop .inv .2) (inside turn .0) (inside turn .1) agrees,
     )
 
 returns-2 : tie.Need-returns-2 Inv-loop μ-loop
@@ -94,8 +118,10 @@ returns-2 c =
     let l = c .before .loop in
     let s = c .before .before .before .before .before .args in
     let end = c .before .before .bounded .result in
-    same-end (λ e. valueOf e (s .state .now)) (take end (s .condition .now)) (take end (s .state .now)) (l .i) _ (l .inv .2)
-    (omega (arith, c .loop-test .left, length-take end (s .condition .now))) (omega (arith, c .loop-test .left, length-take end (s .state .now)))
+    same-end (λ e. valueOf e (s .state .now)) (take end (s .condition .now)) (take end (s .state .now)) (l .i) _
+    (l .inv .2)
+    (omega (arith, c .loop-test .left, length-take end (s .condition .now)))
+    (omega (arith, c .loop-test .left, length-take end (s .state .now)))
     ∙ ap (λ n. meetsWithin n (s .condition .now) (s .state .now)) (l .inv .1)
 
 pub runs-within-spec : {M : Type 1} → statement M

@@ -1,4 +1,5 @@
--- `steps::start_state` meets its contract. The invariant: the first i places hold the bytes of the start, the others still 0.
+-- `steps::start_state` meets its contract. The invariant: the first i places hold the bytes of the start, the others
+-- still 0.
 -- Assumes nothing.
 use mathlib.Core.Path.{_≡_, refl, sym}
 use Prim.Native.Nat.{_≤_, _<_, _-_}
@@ -11,7 +12,8 @@ use Rattle.steps.proofs.start_state.Statement.{statement}
 use Rattle.steps.proofs.start_state.Tie as tie
 
 abbrev Inv-loop : tie.InvT-loop
-Inv-loop start state₀ end i₀ state i = (i ≤ end) × (end ≡ length (take 16 start)) × (state ≡ copied state₀ (take 16 start) i)
+Inv-loop start state₀ end i₀ state i =
+    (i ≤ end) × (end ≡ length (take 16 start)) × (state ≡ copied state₀ (take 16 start) i)
 
 abbrev μ-loop : tie.MeasureT-loop
 μ-loop start state₀ end i₀ state i = end - i
@@ -20,7 +22,8 @@ bounded-requires : tie.Need-bounded-requires Inv-loop μ-loop
 bounded-requires c κs = search needs
 
 loop-holds : tie.Need-loop-holds Inv-loop μ-loop
-loop-holds c = (omega arith, omega (arith, c .bounded .ensures, length-take 16 (c .before .before .args .start .now)), refl)
+loop-holds c =
+    (omega arith, omega (arith, c .bounded .ensures, length-take 16 (c .before .before .args .start .now)), refl)
 
 shared-slice-read-state : tie.Need-shared-slice-read-state Inv-loop μ-loop
 shared-slice-read-state c = search needs
@@ -42,14 +45,16 @@ loop-again c =
     let near : l .i < 16 = omega (arith, turn .loop-test .taken, l .inv .1, length-take 16 start) in (
       omega (arith, turn .loop-test .taken),
       l .inv .1,
-      copied-more _ (take 16 start) (l .i) (l .state) _ 0 near (omega (arith, turn .loop-test .taken, l .inv .1)) (l .inv .2) (sym (getD-take 16 start (l .i) 0 near)),
+      copied-more _ (take 16 start) (l .i) (l .state) _ 0 near (omega (arith, turn .loop-test .taken, l .inv .1))
+          (l .inv .2) (sym (getD-take 16 start (l .i) 0 near)),
     )
 
 returns : tie.Need-returns Inv-loop μ-loop
 returns c =
     let l = c .before .loop in
     let start = c .before .before .before .before .args .start .now in
-    copied-padded 16 0 (take 16 start) (l .i) (l .state) (omega (arith, length-take 16 start)) (omega (arith, c .loop-test .left, l .inv)) (l .inv .2)
+    copied-padded 16 0 (take 16 start) (l .i) (l .state) (omega (arith, length-take 16 start))
+    (omega (arith, c .loop-test .left, l .inv)) (l .inv .2)
 
 pub start-state-spec : {M : Type 1} → statement M
 start-state-spec =

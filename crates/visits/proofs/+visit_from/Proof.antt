@@ -20,7 +20,8 @@ use Rattle.search_spec.specs.Searched.{noMove}
 use Rattle.search_laws.specs.Visits.{noted}
 use Rattle.search_laws.proofs.LookupLaws.{place-fits}
 use Rattle.search_laws.proofs.PlanArrayLaws.{plan-more, noted-plan}
-use Rattle.search_laws.proofs.VisitLoopLaws.{goes-cheap, restFrom, visits-last, whole, whole-exceeded, loop-end, turn-taken, turn-left, plan-next, reached-next}
+use Rattle.search_laws.proofs.VisitLoopLaws.{goes-cheap, restFrom, visits-last, whole, whole-exceeded, loop-end}
+use Rattle.search_laws.proofs.VisitLoopLaws.{turn-taken, turn-left, plan-next, reached-next}
 use Rattle.lookup.proofs.first_place.Reads as first-place-reads
 use Rattle.steps.proofs.goes_on.Reads as goes-on-reads
 use Rattle.plans.proofs.noted.Reads as noted-reads
@@ -73,7 +74,8 @@ module _ (t : ℕ) where
   returns c =
       let asked = c .before .before .before .pre .1 in
       visits-last _ _ _ _ _ _ _ _ _ _ _ _ (c .before .if1 .taken) (asked .1 .total)
-      (noted-plan _ _ _ _ _ _ _ _ (asked .0 .goalLimit) (omega (arith, asked .1 .room)) (asked .1 .rest) (c .noted .ensures))
+      (noted-plan _ _ _ _ _ _ _ _ (asked .0 .goalLimit) (omega (arith, asked .1 .room)) (asked .1 .rest)
+      (c .noted .ensures))
 
   noted-requires-2 : lts.Need-noted-requires-2 (calls t) (at t) visit-from.Post Inv μ
   noted-requires-2 c κs = search needs
@@ -81,18 +83,22 @@ module _ (t : ℕ) where
   -- the sequence itself is noted
   noted-first : (c : lts.After-noted2 (calls t) (at t) visit-from.Post Inv μ)
       → let s = c .before .before .before in
-      c .noted2 .result ≡ noted (s .args .goal .now) (s .args .limits .«step_limit») (s .args .cost) (take (s .args .depth) (s .args .plan .now)) (s .args .state .now) (s .args .progress)
+      c .noted2 .result ≡ noted (s .args .goal .now) (s .args .limits .«step_limit») (s .args .cost)
+      (take (s .args .depth) (s .args .plan .now)) (s .args .state .now) (s .args .progress)
   noted-first c =
       let asked = c .before .before .before .pre .1 in
-      noted-plan _ _ _ _ _ _ _ _ (asked .0 .goalLimit) (omega (arith, asked .1 .room)) (asked .1 .rest) (c .noted2 .ensures)
+      noted-plan _ _ _ _ _ _ _ _ (asked .0 .goalLimit) (omega (arith, asked .1 .room)) (asked .1 .rest)
+      (c .noted2 .ensures)
 
   returns-2 : lts.Need-returns-2 (calls t) (at t) visit-from.Post Inv μ
   returns-2 c =
       let noted = c .before in
-      whole-exceeded _ _ _ _ _ _ _ _ _ _ _ _ (noted .before .if1 .left) (noted .before .before .before .pre .1 .1 .total) (noted-first noted) (c .if2 .taken)
+      whole-exceeded _ _ _ _ _ _ _ _ _ _ _ _ (noted .before .if1 .left)
+      (noted .before .before .before .pre .1 .1 .total) (noted-first noted) (c .if2 .taken)
 
   cast-first-place : lts.Need-cast-first-place (calls t) (at t) visit-from.Post Inv μ
-  cast-first-place c = record { fits = omega (arith, c .before .before .before .before .before .pre .1 .0 .countLimits) }
+  cast-first-place c =
+      record { fits = omega (arith, c .before .before .before .before .before .pre .1 .0 .countLimits) }
 
   first-place-requires : lts.Need-first-place-requires (calls t) (at t) visit-from.Post Inv μ
   first-place-requires c κs = search needs
@@ -104,7 +110,8 @@ module _ (t : ℕ) where
       (omega arith, refl, λ number. plan-more 32 noMove _ _ (start .pre .1 .1 .rest) number (omega (arith, start .pre .1 .1 .room, before .if1 .left)))
 
   -- from the loop's head: where the sequence itself is noted, and the function's start
-  abbrev noting : lts.At-loop (calls t) (at t) visit-from.Post Inv μ → lts.After-noted2 (calls t) (at t) visit-from.Post Inv μ
+  abbrev noting : lts.At-loop (calls t) (at t) visit-from.Post Inv μ
+      → lts.After-noted2 (calls t) (at t) visit-from.Post Inv μ
   noting l = l .before .before .before .before .before .before
 
   abbrev start : lts.At-loop (calls t) (at t) visit-from.Post Inv μ → lts.Start (calls t) (at t) visit-from.Post Inv μ
@@ -114,11 +121,13 @@ module _ (t : ℕ) where
   first : (l : lts.At-loop (calls t) (at t) visit-from.Post Inv μ)
       → let s = start l .args in
       let place = l .before .before .before .first-place .result in
-      (place ≡ indexOf (s .limits .count) (last (s .limits .reach - 1) (take (s .depth) (s .plan .now))) * s .limits .count + 1)
-      × (place + s .limits .count ≤ sequenceCount (s .limits .count) (s .limits .reach))
+      let m = s .limits .count in
+      (place ≡ indexOf m (last (s .limits .reach - 1) (take (s .depth) (s .plan .now))) * m + 1)
+      × (place + m ≤ sequenceCount m (s .limits .reach))
   first l =
       let asked = start l .pre .1 in
-      place-fits _ _ (take (start l .args .depth) (start l .args .plan .now)) _ (asked .0 .reachLimits .0) (asked .0 .reachLimits .1) (asked .1 .rules) (l .before .before .before .first-place .ensures)
+      place-fits _ _ (take (start l .args .depth) (start l .args .plan .now)) _ (asked .0 .reachLimits .0)
+      (asked .0 .reachLimits .1) (asked .1 .rules) (l .before .before .before .first-place .ensures)
 
   -- in the loop the plan has room for one more move
   deeper : (l : lts.At-loop (calls t) (at t) visit-from.Post Inv μ) → start l .args .depth < 32
@@ -185,10 +194,15 @@ module _ (t : ℕ) where
   cast-visit-from : lts.Need-cast-visit-from (calls t) (at t) visit-from.Post Inv μ
   cast-visit-from c =
       let went = c .before .before .before .before .before in
-      record { fits = goes-cheap _ _ _ _ _ _ (went .before .goes-on .ensures) (went .if4 .taken) (went .before .before .before .before .before .before .struct-known2 .given .1 .1 .1 .0 .fits) }
+      record {
+        fits = goes-cheap _ _ _ _ _ _ (went .before .goes-on .ensures) (went .if4 .taken)
+            (went .before .before .before .before .before .before .struct-known2 .given .1 .1 .1 .0 .fits);
+      }
 
   sub-visit-from : lts.Need-sub-visit-from (calls t) (at t) visit-from.Post Inv μ
-  sub-visit-from c = omega (arith, noting (c .before .before .before .before .before .before .before .before .before .before .before .before) .before .if1 .left)
+  sub-visit-from c =
+      let turn = c .before .before .before .before .before .before .before .before .before .before in
+      omega (arith, noting (turn .before .before) .before .if1 .left)
 
   visit-from-requires : lts.Need-visit-from-requires (calls t) (at t) visit-from.Post Inv μ
   visit-from-requires c κs =
@@ -201,7 +215,8 @@ module _ (t : ℕ) where
         omega (arith, pre .0, more),
         (
           lent,
-          reached-next _ _ _ _ _ _ _ reached _ _ (l .loop .inv .2 _) _ _ _ lent (turn .if3 .taken) _ (c .before .before .put-after .ensures) _ (omega (arith, reached .room, more)),
+          reached-next _ _ _ _ _ _ _ reached _ _ (l .loop .inv .2 _) _ _ _ lent (turn .if3 .taken) _
+              (c .before .before .put-after .ensures) _ (omega (arith, reached .room, more)),
         ),
       )
 
@@ -219,13 +234,16 @@ module _ (t : ℕ) where
       ⊎-elim
       (λ w. (
         omega (arith, turn .if3 .taken),
-        turn-taken _ _ _ _ _ _ _ _ _ (first l .0) (asked .1 .total) (asked .0 .reachLimits .0) _ _ _ _ _ (turn .if3 .taken) (l .loop .inv .1) (asked .0) (asked .1 .stateEnd) _
-            (c .before .goes-on .ensures) (w .0 .taken) _ (plan-next _ _ _ _ _ _ _ (asked .1) _ _ (l .loop .inv .2 _)) _ (w .3 .ensures) (w .6 .result) _ (w .7) (w .6 .ensures),
+        turn-taken _ _ _ _ _ _ _ _ _ (first l .0) (asked .1 .total) (asked .0 .reachLimits .0) _ _ _ _ _
+            (turn .if3 .taken) (l .loop .inv .1) (asked .0) (asked .1 .stateEnd) _
+            (c .before .goes-on .ensures) (w .0 .taken) _ (plan-next _ _ _ _ _ _ _ (asked .1) _ _ (l .loop .inv .2 _)) _
+            (w .3 .ensures) (w .6 .result) _ (w .7) (w .6 .ensures),
         λ number. rw (w .8) (set-set (l .loop .longer) (start l .args .depth) (l .loop .k + 1) number ∙ l .loop .inv .2 number),
       ))
       (λ w. (
         omega (arith, turn .if3 .taken),
-        rw (w .1) (turn-left _ _ _ _ _ _ _ _ _ (first l .0) (asked .1 .total) (asked .0 .reachLimits .0) _ _ _ _ _ (turn .if3 .taken) (l .loop .inv .1) (asked .0) (asked .1 .stateEnd) _
+        rw (w .1) (turn-left _ _ _ _ _ _ _ _ _ (first l .0) (asked .1 .total) (asked .0 .reachLimits .0) _ _ _ _ _
+            (turn .if3 .taken) (l .loop .inv .1) (asked .0) (asked .1 .stateEnd) _
             (c .before .goes-on .ensures) (w .0 .left)),
         λ number. rw (w .2) (l .loop .inv .2 number),
       ))
@@ -235,7 +253,8 @@ module _ (t : ℕ) where
   returns-3 c =
       let l = c .before .before in
       let noted = noting l in
-      sym (loop-end _ _ _ _ _ _ _ _ _ _ _ (c .if3 .left)) ∙ l .loop .inv .1 ∙ whole _ _ _ _ _ _ _ _ _ _ _ _ (noted .before .if1 .left) (start l .pre .1 .1 .total) (noted-first noted)
+      sym (loop-end _ _ _ _ _ _ _ _ _ _ _ (c .if3 .left)) ∙ l .loop .inv .1 ∙ whole _ _ _ _ _ _ _ _ _ _ _ _
+      (noted .before .if1 .left) (start l .pre .1 .1 .total) (noted-first noted)
 
 pub +visit-from-spec : {M : Type 1} → statement M
 +visit-from-spec =

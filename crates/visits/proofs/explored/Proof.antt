@@ -1,4 +1,5 @@
--- `visits::explored` meets its contract: for a query that is not refused what it lends is as the recursion asks, and the visits from the empty sequence on come to what the query asks for.
+-- `visits::explored` meets its contract: for a query that is not refused what it lends is as the recursion asks, and
+-- the visits from the empty sequence on come to what the query asks for.
 -- Assumes nothing.
 use mathlib.Core.Path.{_≡_, refl, sym, _∙_}
 use borrow.Author.Needs.{needs}
@@ -21,11 +22,13 @@ startOf c = c .before .before .before .before
 abbrev queryOf : tie.Start → Query
 queryOf s =
     let a = s .args in
-    asked (a .reach) (a .table .now) (a .start .now) (a .goal .now) (a .max-moves) (a .max-cost) (a .step-limit) (a .plan-size)
+    asked (a .reach) (a .table .now) (a .start .now) (a .goal .now) (a .max-moves) (a .max-cost) (a .step-limit)
+    (a .plan-size)
 
 -- it is judged
 refusal : (c : tie.After-query-refusal) → c .query-refusal .result ≡ firstRefusal (queryCauses (startOf c .args .set) (queryOf (startOf c)))
-refusal c = same-refusal (startOf c .args .set) (queryOf (startOf c)) (c .query-refusal .result) (c .query-refusal .ensures)
+refusal c =
+    same-refusal (startOf c .args .set) (queryOf (startOf c)) (c .query-refusal .result) (c .query-refusal .ensures)
 
 returns : tie.Need-returns
 unfolding noBest noProgress
@@ -33,7 +36,8 @@ returns c = record { refused = refusal (c .before); explored = λ e. absurd (c .
 
 -- past the first return, it is not refused
 judged : (c : tie.Else1) → NotRefused (startOf (c .before) .args .set) (queryOf (startOf (c .before)))
-judged c = let s = startOf (c .before) in unrefused (s .args .set) (queryOf s) (sym (refusal (c .before)) ∙ c .if1 .left)
+judged c =
+    let s = startOf (c .before) in unrefused (s .args .set) (queryOf s) (sym (refusal (c .before)) ∙ c .if1 .left)
 
 conditions-of-requires : tie.Need-conditions-of-requires
 conditions-of-requires c κs = search needs
@@ -69,7 +73,8 @@ visit-from-requires c κs =
     let lent = lentAt placed in
     let posed = posedAt placed in
     let s = startOf (posed .before) in (
-      lent-whole (s .args .set) (queryOf s) (judged posed) _ _ (lent .before .before .conditions-of .ensures) (lent .before .effects-of .ensures),
+      lent-whole (s .args .set) (queryOf s) (judged posed) _ _ (lent .before .before .conditions-of .ensures)
+          (lent .before .effects-of .ensures),
       reached-first (s .args .set) (queryOf s) (judged posed) _ _ (placed .start-state .ensures),
     )
 
@@ -83,8 +88,10 @@ returns-2 c =
     record {
       refused = sym (posed .if1 .left) ∙ refusal (posed .before);
       explored = λ _.
-          explored-whole (s .args .set) (queryOf s) (judged posed) _ (placed .before .before .before .lookup-of .ensures) _ _ _ _ _ _
-          (lent .before .before .conditions-of .ensures) (lent .before .effects-of .ensures) (lent .costs-of .ensures) (placed .start-state .ensures) refl (c .visit-from .ensures);
+          explored-whole (s .args .set) (queryOf s) (judged posed) _
+          (placed .before .before .before .lookup-of .ensures) _ _ _ _ _ _
+          (lent .before .before .conditions-of .ensures) (lent .before .effects-of .ensures) (lent .costs-of .ensures)
+          (placed .start-state .ensures) refl (c .visit-from .ensures);
       blank = λ e. absurd (e refl);
     }
 
