@@ -1,8 +1,8 @@
-// Numbers held to a limit.
+// Numbers held to a limit: a byte, and a place or a length.
 ghost use mathlib.Core.Path.{_≡_};
 ghost use Prim.Native.Nat.{min};
 
-// The number, or the limit where that is smaller.
+// The byte, or its limit where that is smaller.
 pub fn at_most(number: u8, limit: u8) -> u8
     ensures { λ r. ⌜ r ≡ min number limit ⌝ }
 {
@@ -10,4 +10,14 @@ pub fn at_most(number: u8, limit: u8) -> u8
         return number;
     }
     limit
+}
+
+// The smaller of two numbers.
+pub fn smaller(a: usize, b: usize) -> usize
+    ensures { λ r. ⌜ r ≡ min a b ⌝ }
+{
+    if a < b {
+        return a;
+    }
+    b
 }

@@ -1,4 +1,5 @@
 // What the case programs have in common: numbers of a line, put into a buffer.
+use bounded::smaller;
 use bytes::scan::find;
 use cases_common::number_of;
 ghost use mathlib.Core.Path.{_≡_};
@@ -26,16 +27,6 @@ pub fn put_entry(index: usize, value: usize, table: &mut [u8])
     put_byte(2 * index + 1, value / 256, table);
 }
 
-// The smaller of two numbers.
-fn least(a: usize, b: usize) -> usize
-    ensures { λ r. ⌜ r ≡ min a b ⌝ }
-{
-    if a < b {
-        return a;
-    }
-    b
-}
-
 // Puts the numbers of a comma list into a buffer, as far as there is room, 255 for each that is larger; gives how many
 // these are. `-` is the empty list.
 pub fn list_of(text: &[u8], bytes: &mut [u8]) -> usize
@@ -52,7 +43,7 @@ pub fn list_of(text: &[u8], bytes: &mut [u8]) -> usize
         }
         let rest = &text[from..];
         let size = find(rest, 0, rest.len(), b',');
-        put_byte(count, least(number_of(&rest[0..size]), 255), bytes);
+        put_byte(count, smaller(number_of(&rest[0..size]), 255), bytes);
         count += 1;
         from += size + 1;
     }

@@ -22,6 +22,7 @@
 // elsewhere both ways were compared. Marks were tested in every state or, where there are too many, in one whose
 // free entries are all different. P1 to P5, P9 and P10 are as document 01 gives them, and the numbers of steps that
 // a heading gives were worked out by hand.
+use bounded::smaller;
 use buffers::fill_from;
 use bytes::scan::find;
 use cases_buffers::list_of;
@@ -53,17 +54,6 @@ fn print_number(n: u64) {
 
 fn print_byte(n: u8) {
     print_number(n as u64);
-}
-
-// The smaller of two numbers.
-fn least(a: usize, b: usize) -> usize
-    ensures { λ r. ⌜ r ≤ a ⌝ }
-    ensures { λ r. ⌜ r ≤ b ⌝ }
-{
-    if a < b {
-        return a;
-    }
-    b
 }
 
 // Puts all entries of a text, as `6:7,16:12`, into the table.
@@ -122,7 +112,7 @@ fn built(set: RuleSet, text: &[u8], table: &mut [u8]) -> usize
     ensures { λ r. ⌜ r ≤ length (now (table .entry)) ⌝ }
 {
     let reach = number_of(up_to(b' ', text));
-    let size = least(number_of(behind(b' ', text)), table.len());
+    let size = smaller(number_of(behind(b' ', text)), table.len());
     print_built(set, reach, &mut table[0..size]);
     size
 }
@@ -138,7 +128,7 @@ fn print_made(entries: &[u8], table: &mut [u8]) {
 fn made(text: &[u8], table: &mut [u8]) -> usize
     ensures { λ r. ⌜ r ≤ length (now (table .entry)) ⌝ }
 {
-    let size = least(number_of(up_to(b' ', text)), table.len());
+    let size = smaller(number_of(up_to(b' ', text)), table.len());
     print_made(behind(b' ', text), &mut table[0..size]);
     size
 }
@@ -178,7 +168,7 @@ fn print_numbers(answer: Answer) {
 fn print_plan(length: usize, plan: &[u8]) {
     print(b"; plan ");
     print_moves(answers::plan_part(plan, length));
-    let size = least(length, plan.len());
+    let size = smaller(length, plan.len());
     if blank(&plan[size..]) {
         print(b"; rest 255");
         return;
@@ -204,10 +194,10 @@ fn print_found(
 ) {
     let moves = number_of(up_to(b' ', text));
     let bounds = behind(b' ', text);
-    let cost = least(number_of(up_to(b' ', bounds)), 65535) as u16;
+    let cost = smaller(number_of(up_to(b' ', bounds)), 65535) as u16;
     let limits = behind(b' ', bounds);
-    let limit = least(number_of(up_to(b' ', limits)), 4294967295) as u32;
-    let room = least(number_of(behind(b' ', limits)), plan.len());
+    let limit = smaller(number_of(up_to(b' ', limits)), 4294967295) as u32;
+    let room = smaller(number_of(behind(b' ', limits)), plan.len());
     let part = &mut plan[0..room];
     fill_from(part, 0, 170);
     let answer = search::search(set, reach, table, start, goal, moves, cost, limit, part);
@@ -280,7 +270,7 @@ fn next_size(set: RuleSet, size: usize, verb: u8, text: &[u8], table: &mut [u8])
         return made(text, table);
     }
     if verb == b'q' {
-        print_query(set, text, &table[0..least(size, table.len())]);
+        print_query(set, text, &table[0..smaller(size, table.len())]);
     }
     size
 }

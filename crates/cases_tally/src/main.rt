@@ -12,6 +12,7 @@
 //   that stands: its bytes
 // The answers that `stdout` holds were worked out from document 01 by scripts, those of searches as in
 // `cases_search`.
+use bounded::smaller;
 use buffers::fill_from;
 use bytes::scan::find;
 use cases_buffers::list_of;
@@ -51,17 +52,6 @@ fn print_number(n: u64) {
 
 fn print_byte(n: u8) {
     print_number(n as u64);
-}
-
-// The smaller of two numbers.
-fn least(a: usize, b: usize) -> usize
-    ensures { λ r. ⌜ r ≤ a ⌝ }
-    ensures { λ r. ⌜ r ≤ b ⌝ }
-{
-    if a < b {
-        return a;
-    }
-    b
 }
 
 // Puts all entries of a text, as `6:7,16:12`, into the table.
@@ -120,7 +110,7 @@ fn built(set: RuleSet, text: &[u8], table: &mut [u8]) -> usize
     ensures { λ r. ⌜ r ≤ length (now (table .entry)) ⌝ }
 {
     let reach = number_of(up_to(b' ', text));
-    let size = least(number_of(behind(b' ', text)), table.len());
+    let size = smaller(number_of(behind(b' ', text)), table.len());
     print_built(set, reach, &mut table[0..size]);
     size
 }
@@ -136,7 +126,7 @@ fn print_made(entries: &[u8], table: &mut [u8]) {
 fn made(text: &[u8], table: &mut [u8]) -> usize
     ensures { λ r. ⌜ r ≤ length (now (table .entry)) ⌝ }
 {
-    let size = least(number_of(up_to(b' ', text)), table.len());
+    let size = smaller(number_of(up_to(b' ', text)), table.len());
     print_made(behind(b' ', text), &mut table[0..size]);
     size
 }
@@ -176,7 +166,7 @@ fn print_numbers(answer: Answer) {
 fn print_plan(length: usize, plan: &[u8]) {
     print(b"; plan ");
     print_moves(answers::plan_part(plan, length));
-    let size = least(length, plan.len());
+    let size = smaller(length, plan.len());
     if blank(&plan[size..]) {
         print(b"; rest 255");
         return;
@@ -307,10 +297,10 @@ fn print_found(
 ) -> Tally {
     let moves = number_of(up_to(b' ', text));
     let bounds = behind(b' ', text);
-    let cost = least(number_of(up_to(b' ', bounds)), 65535) as u16;
+    let cost = smaller(number_of(up_to(b' ', bounds)), 65535) as u16;
     let limits = behind(b' ', bounds);
-    let limit = least(number_of(up_to(b' ', limits)), 4294967295) as u32;
-    let room = least(number_of(behind(b' ', limits)), plan.len());
+    let limit = smaller(number_of(up_to(b' ', limits)), 4294967295) as u32;
+    let room = smaller(number_of(behind(b' ', limits)), plan.len());
     let part = &mut plan[0..room];
     if counted {
         return print_tallied_search(
@@ -395,8 +385,8 @@ fn print_set_tally(text: &[u8]) -> Tally {
 
 // The answer to `u`; gives the tally.
 fn print_updates(tally: Tally, text: &[u8]) -> Tally {
-    let outcome = least(number_of(up_to(b' ', text)), 255) as u8;
-    let steps = least(number_of(behind(b' ', text)), 4294967295) as u32;
+    let outcome = smaller(number_of(up_to(b' ', text)), 255) as u8;
+    let steps = smaller(number_of(behind(b' ', text)), 4294967295) as u32;
     print(b"by value ");
     print_tally(tally::tallied(tally, outcome, steps));
     let next = updated(tally, outcome, steps);
@@ -408,7 +398,7 @@ fn print_updates(tally: Tally, text: &[u8]) -> Tally {
 // The answer to `p`.
 fn print_part(text: &[u8], plan: &[u8]) {
     let size = number_of(up_to(b' ', text));
-    let room = least(number_of(behind(b' ', text)), plan.len());
+    let room = smaller(number_of(behind(b' ', text)), plan.len());
     print(b"part ");
     print_moves(answers::plan_part(&plan[0..room], size));
 }
@@ -510,7 +500,7 @@ fn run(standing: Standing, line: &[u8], table: &mut [u8], plan: &mut [u8]) -> St
     print(b": ");
     let set = next_set(standing.set, line[0], &line[2..]);
     let size = next_size(set, standing.size, line[0], &line[2..], table);
-    let stands = &table[0..least(size, table.len())];
+    let stands = &table[0..smaller(size, table.len())];
     let tally = next_tally(set, standing.tally, line[0], &line[2..], stands, plan);
     print(b"\n");
     Standing { set, size, tally }

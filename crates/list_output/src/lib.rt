@@ -1,4 +1,5 @@
 // The comma lists of a rule file, each laid over a buffer from a place on.
+use bounded::smaller;
 use output::put;
 use output::put_number;
 use separators::ending;
@@ -7,13 +8,6 @@ ghost use Prim.Native.Nat.{min};
 ghost use Rattle.files_spec.specs.Text.{numeral};
 ghost use Rattle.files_spec.specs.File.{entryText};
 ghost use Rattle.output_laws.specs.Overlay.{Laid, listText};
-
-// The smaller of two numbers.
-fn smaller(a: usize, b: usize) -> usize
-    ensures { λ r. ⌜ r ≡ min a b ⌝ }
-{
-    if a < b { a } else { b }
-}
 
 // Lays a number of one byte.
 fn put_byte(text: &mut [u8], at: usize, n: u8) -> usize

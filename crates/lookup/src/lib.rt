@@ -1,4 +1,6 @@
 // One look-up for all segments that end in the newest rule: a byte for each index, whether a suffix of its sequence is marked.
+use bounded::at_most;
+use bounded::smaller;
 use tables::KEPT;
 use tables::entry_at;
 use tables::sequence_count;
@@ -9,20 +11,6 @@ ghost use Rattle.theory_spec.specs.Indices.{indexOf, sequenceOf};
 ghost use Rattle.theory_spec.specs.Recursion.{last};
 ghost use Rattle.tables_spec.specs.Table.{sequenceCount};
 ghost use Rattle.search_laws.specs.Lookup.{LooksUp};
-
-// How many rules there are: at most 31.
-fn rules_of(count: u8) -> u8
-    ensures { λ r. ⌜ r ≡ min count 31 ⌝ }
-{
-    if count < 31 { count } else { 31 }
-}
-
-// The smaller of two numbers of entries.
-fn smaller(a: usize, b: usize) -> usize
-    ensures { λ r. ⌜ r ≡ min a b ⌝ }
-{
-    if a < b { a } else { b }
-}
 
 // The index of a sequence of one to three rules without its first rule.
 fn tail_index(count: usize, index: usize) -> usize
@@ -45,7 +33,7 @@ fn tail_index(count: usize, index: usize) -> usize
 pub fn lookup_of(count: u8, table: &[u8]) -> [u8; 30784]
     ensures { λ r. ⌜ LooksUp (min count 31) (now (table .entry)) r ⌝ }
 {
-    let rules = rules_of(count);
+    let rules = at_most(count, 31);
     let end = smaller(table.len() / 2, sequence_count(rules, 3));
     // a byte for each sequence of at most three of 31 rules
     let mut blocked = [0u8; 30784];

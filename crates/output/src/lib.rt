@@ -1,5 +1,6 @@
 // Text laid over a buffer from a place on, as far as the buffer reaches; the place after it is given back, held at the
 // largest of the machine's numbers.
+use bounded::smaller;
 ghost use mathlib.Core.Path.{_≡_};
 ghost use mathlib.Core.List.{[], _∷_, _++_};
 ghost use Prim.Native.Nat.{_≤_, _<_, min};
@@ -59,13 +60,6 @@ fn put_digits(text: &mut [u8], at: usize, n: usize) -> usize
     let second = put_digit(text, at, n / 100);
     let third = put_digit(text, second, n / 10 % 10);
     put_digit(text, third, n % 10)
-}
-
-// The smaller of two numbers.
-fn smaller(a: usize, b: usize) -> usize
-    ensures { λ r. ⌜ r ≡ min a b ⌝ }
-{
-    if a < b { a } else { b }
 }
 
 // Lays a number, or 999 where it is larger.

@@ -1,4 +1,5 @@
 // What visiting a sequence makes of the search's progress: one step more, and the best plan so far.
+use bounded::smaller;
 use search_laws::Best;
 use search_laws::Progress;
 use search_spec::ANY_VALUE;
@@ -8,19 +9,12 @@ ghost use lib.ListN.{take};
 ghost use Rattle.search_spec.specs.Query.{meetsGoal};
 ghost use Rattle.search_laws.specs.Visits.{replaces, notedMoves};
 
-// A state has sixteen places.
-fn bounded(positions: usize) -> usize
-    ensures { λ r. ⌜ r ≡ min positions 16 ⌝ }
-{
-    if positions < 16 { positions } else { 16 }
-}
-
 // Whether a state meets the first sixteen bytes of the goal: 255 in the goal asks for nothing.
 fn meets_goal(goal: &[u8], state: &[u8; 16]) -> bool
     ensures { λ r. ⌜ r ≡ meetsGoal (take 16 (now (goal .entry))) (now (state .entry)) ⌝ }
 {
     let held: &[u8] = state;
-    let end = bounded(goal.len());
+    let end = smaller(goal.len(), 16);
     let mut i: usize = 0;
     while i < end {
         if goal[i] != ANY_VALUE {
@@ -50,8 +44,8 @@ fn replaces(best: Best, cost: u16, length: u8) -> bool
     length < best.length
 }
 
-// The smaller of two costs.
-fn smaller(a: u16, b: u16) -> u16
+// The lower of two costs.
+fn lower(a: u16, b: u16) -> u16
     ensures { λ r. ⌜ r ≡ min a b ⌝ }
 {
     if a < b { a } else { b }
@@ -75,7 +69,7 @@ pub fn noted(
 {
     let best = progress.best;
     if step_limit <= progress.steps {
-        let floor = smaller(progress.floor, cost);
+        let floor = lower(progress.floor, cost);
         return Progress {
             steps: progress.steps,
             exceeded: true,

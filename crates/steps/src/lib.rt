@@ -1,4 +1,5 @@
 // The states of a search, to the positions only: the start, whether a rule goes on, and where its effect leads.
+use bounded::smaller;
 use states::value;
 ghost use mathlib.Core.Path.{_≡_};
 ghost use mathlib.Core.Bool.{_&&_};
@@ -9,19 +10,12 @@ ghost use Rattle.theory_spec.specs.Lists.{padded};
 ghost use Rattle.model_spec.specs.States.{successor};
 ghost use Rattle.search_laws.specs.Visits.{meetsWithin, laidOver};
 
-// A state has sixteen places.
-fn bounded(positions: usize) -> usize
-    ensures { λ r. ⌜ r ≡ min positions 16 ⌝ }
-{
-    if positions < 16 { positions } else { 16 }
-}
-
 // The state of a start: 0 beyond its bytes.
 pub fn start_state(start: &[u8]) -> [u8; 16]
     ensures { λ r. ⌜ r ≡ padded 16 0 (take 16 (now (start .entry))) ⌝ }
 {
     let mut state = [0u8; 16];
-    let end = bounded(start.len());
+    let end = smaller(start.len(), 16);
     let mut i: usize = 0;
     while i < end {
         state[i] = start[i];
@@ -36,7 +30,7 @@ fn runs_within(positions: usize, condition: &[u8; 16], state: &[u8; 16]) -> bool
 {
     let entries: &[u8] = condition;
     let held: &[u8] = state;
-    let end = bounded(positions);
+    let end = smaller(positions, 16);
     let mut i: usize = 0;
     while i < end {
         if value(entries[i], state) != held[i] {
@@ -78,7 +72,7 @@ pub fn put_after(positions: usize, effect: &[u8; 16], state: &[u8; 16], next: &m
         ≡ laidOver (min positions 16) (successor (now (effect .entry)) (now (state .entry))) (now (next .entry)) ⌝ }
 {
     let entries: &[u8] = effect;
-    let end = bounded(positions);
+    let end = smaller(positions, 16);
     let mut i: usize = 0;
     while i < end {
         next[i] = value(entries[i], state);

@@ -52,8 +52,8 @@ part-number-of-end c = search needs
 number-of-requires : tie.Need-number-of-requires Inv-loop μ-loop
 number-of-requires c κs = search needs
 
-least-requires : tie.Need-least-requires Inv-loop μ-loop
-least-requires c κs = search needs
+smaller-requires : tie.Need-smaller-requires Inv-loop μ-loop
+smaller-requires c κs = search needs
 
 put-byte-requires : tie.Need-put-byte-requires Inv-loop μ-loop
 put-byte-requires c κs = search needs
@@ -98,7 +98,7 @@ list-of-spec =
     part-number-of-start
     part-number-of-end
     number-of-requires
-    least-requires
+    smaller-requires
     put-byte-requires
     add-count
     add-from

@@ -25,8 +25,8 @@ Inv-loop count table rules end blocked₀ i₀ blocked i =
 abbrev μ-loop : tie.MeasureT-loop
 μ-loop count table rules end blocked₀ i₀ blocked i = end - i
 
-rules-of-requires : tie.Need-rules-of-requires Inv-loop μ-loop
-rules-of-requires c κs = search needs
+at-most-requires : tie.Need-at-most-requires Inv-loop μ-loop
+at-most-requires c κs = search needs
 
 sequence-count-requires : tie.Need-sequence-count-requires Inv-loop μ-loop
 sequence-count-requires c κs = search needs
@@ -39,7 +39,7 @@ loop-holds c =
     let s = c .before .before .before .before in (
       omega arith,
       length-replicate {A = ℕ} 30784 0,
-      look-up-start (c .before .before .rules-of .result)
+      look-up-start (c .before .before .at-most .result)
           (s .args .table .now) 30784,
       λ j h. zeros-at 30784 j,
     )
@@ -51,7 +51,7 @@ abbrev startOf : tie.At-loop Inv-loop μ-loop → tie.Start Inv-loop μ-loop
 startOf l = l .before .before .before .before .before
 
 abbrev rulesOf : tie.At-loop Inv-loop μ-loop → ℕ
-rulesOf l = l .before .before .before .rules-of .result
+rulesOf l = l .before .before .before .at-most .result
 
 -- the places that are filled
 end-is : (l : tie.At-loop Inv-loop μ-loop)
@@ -66,7 +66,7 @@ inside turn = omega (arith, turn .loop-test .taken, end-is (turn .before))
 
 -- which are at most 31
 few : (l : tie.At-loop Inv-loop μ-loop) → rulesOf l ≤ 31
-few l = omega (arith, l .before .before .before .rules-of .ensures)
+few l = omega (arith, l .before .before .before .at-most .ensures)
 
 -- and it is one of the look-up's
 near : (turn : tie.In-loop Inv-loop μ-loop) → turn .before .loop .i < 30784
@@ -121,7 +121,7 @@ returns : tie.Need-returns Inv-loop μ-loop
 returns c =
     let l = c .before in
     let table = startOf l .args .table .now in
-    subst (λ m. LooksUp m table (l .loop .blocked)) (l .before .before .before .rules-of .ensures)
+    subst (λ m. LooksUp m table (l .loop .blocked)) (l .before .before .before .at-most .ensures)
     (look-up-whole (rulesOf l) table (l .loop .blocked) (l .loop .i) (l .before .smaller .result) (end-is l)
     (c .loop-test .left) (l .loop .inv .2) (l .loop .inv .3))
 
@@ -131,7 +131,7 @@ lookup-of-spec =
     (tie.spec
     Inv-loop
     μ-loop
-    rules-of-requires
+    at-most-requires
     sequence-count-requires
     smaller-requires
     loop-holds

@@ -28,15 +28,15 @@ Inv-loop goal state held end i₀ i =
 abbrev μ-loop : tie.MeasureT-loop
 μ-loop goal state held end i₀ i = end - i
 
-bounded-requires : tie.Need-bounded-requires Inv-loop μ-loop
-bounded-requires c κs = search needs
+smaller-requires : tie.Need-smaller-requires Inv-loop μ-loop
+smaller-requires c κs = search needs
 
 loop-holds : tie.Need-loop-holds Inv-loop μ-loop
 unfolding meetsGoal
 loop-holds c =
     let goal = c .before .before .before .args .goal .now in
     let e : length (take 16 goal) - 0 ≡ length (take 16 goal) = omega arith in
-    (omega arith, omega (arith, c .bounded .ensures, length-take 16 goal), rw e)
+    (omega arith, omega (arith, c .smaller .ensures, length-take 16 goal), rw e)
 
 shared-slice-read-if1 : tie.Need-shared-slice-read-if1 Inv-loop μ-loop
 shared-slice-read-if1 c = search needs
@@ -101,7 +101,7 @@ meets-goal-spec =
     (tie.spec
     Inv-loop
     μ-loop
-    bounded-requires
+    smaller-requires
     loop-holds
     shared-slice-read-if1
     shared-slice-read-if2

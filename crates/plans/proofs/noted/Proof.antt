@@ -7,12 +7,12 @@ use Rattle.search_laws.specs.Visits.{bestAt, notedMoves}
 use Rattle.plans.proofs.noted.Statement.{statement}
 use Rattle.plans.proofs.noted.Tie as tie
 
-smaller-requires : tie.Need-smaller-requires
-smaller-requires c κs = search needs
+lower-requires : tie.Need-lower-requires
+lower-requires c κs = search needs
 
 returns : tie.Need-returns
 unfolding notedMoves
-returns c = rw (le-ltb _ _ (c .before .if1 .taken), c .smaller .ensures)
+returns c = rw (le-ltb _ _ (c .before .if1 .taken), c .lower .ensures)
 
 add-steps : tie.Need-add-steps
 add-steps c = search needs
@@ -55,7 +55,7 @@ pub noted-spec : {M : Type 1} → statement M
 noted-spec =
     tie.close
     (tie.spec
-    smaller-requires
+    lower-requires
     returns
     add-steps
     meets-goal-requires

@@ -20,8 +20,8 @@ Inv-loop positions effect state next₀ entries end i₀ next i =
 abbrev μ-loop : tie.MeasureT-loop
 μ-loop positions effect state next₀ entries end i₀ next i = end - i
 
-bounded-requires : tie.Need-bounded-requires Inv-loop μ-loop
-bounded-requires c κs = search needs
+smaller-requires : tie.Need-smaller-requires Inv-loop μ-loop
+smaller-requires c κs = search needs
 
 loop-holds : tie.Need-loop-holds Inv-loop μ-loop
 loop-holds c = (omega arith, laid-none _ _)
@@ -48,7 +48,7 @@ loop-again c =
     let start = l .before .before .before in
     let effect = start .args .effect .now in
     let state = start .args .state .now in
-    let near : l .loop .i < 16 = omega (arith, turn .loop-test .taken, l .before .bounded .ensures) in
+    let near : l .loop .i < 16 = omega (arith, turn .loop-test .taken, l .before .smaller .ensures) in
     let sixteen = l .before .before .entries .given .0 in
     let long : length (successor effect state) ≡ 16 = successor-length effect state ∙ sixteen in (
       omega (arith, turn .loop-test .taken),
@@ -62,7 +62,7 @@ returns c =
     let l = c .before in
     let positions = l .before .before .before .args .positions in
     let all : l .loop .i ≡ min positions 16 =
-    omega (arith, c .loop-test .left, l .loop .inv .0, l .before .bounded .ensures) in
+    omega (arith, c .loop-test .left, l .loop .inv .0, l .before .smaller .ensures) in
     l .loop .inv .1 ∙ rw all
 
 pub put-after-spec : {M : Type 1} → statement M
@@ -71,7 +71,7 @@ put-after-spec =
     (tie.spec
     Inv-loop
     μ-loop
-    bounded-requires
+    smaller-requires
     loop-holds
     shared-slice-read-value
     value-requires

@@ -24,12 +24,12 @@ Inv-loop positions condition state entries held end i₀ i =
 abbrev μ-loop : tie.MeasureT-loop
 μ-loop positions condition state entries held end i₀ i = end - i
 
-bounded-requires : tie.Need-bounded-requires Inv-loop μ-loop
-bounded-requires c κs = search needs
+smaller-requires : tie.Need-smaller-requires Inv-loop μ-loop
+smaller-requires c κs = search needs
 
 loop-holds : tie.Need-loop-holds Inv-loop μ-loop
 unfolding meetsWithin valuesOf
-loop-holds c = (omega arith, c .bounded .ensures, refl)
+loop-holds c = (omega arith, c .smaller .ensures, refl)
 
 shared-slice-read-value : tie.Need-shared-slice-read-value Inv-loop μ-loop
 shared-slice-read-value c = search needs
@@ -44,7 +44,7 @@ abbrev startOf : tie.In-loop Inv-loop μ-loop → tie.Start Inv-loop μ-loop
 startOf turn = turn .before .before .before .before .before
 
 abbrev endOf : tie.In-loop Inv-loop μ-loop → ℕ
-endOf turn = turn .before .before .bounded .result
+endOf turn = turn .before .before .smaller .result
 
 -- the place of a turn is one of the positions
 inside : (turn : tie.In-loop Inv-loop μ-loop)
@@ -117,7 +117,7 @@ returns-2 : tie.Need-returns-2 Inv-loop μ-loop
 returns-2 c =
     let l = c .before .loop in
     let s = c .before .before .before .before .before .args in
-    let end = c .before .before .bounded .result in
+    let end = c .before .before .smaller .result in
     same-end (λ e. valueOf e (s .state .now)) (take end (s .condition .now)) (take end (s .state .now)) (l .i) _
     (l .inv .2)
     (omega (arith, c .loop-test .left, length-take end (s .condition .now)))
@@ -130,7 +130,7 @@ runs-within-spec =
     (tie.spec
     Inv-loop
     μ-loop
-    bounded-requires
+    smaller-requires
     loop-holds
     shared-slice-read-value
     value-requires

@@ -18,12 +18,12 @@ Inv-loop start state₀ end i₀ state i =
 abbrev μ-loop : tie.MeasureT-loop
 μ-loop start state₀ end i₀ state i = end - i
 
-bounded-requires : tie.Need-bounded-requires Inv-loop μ-loop
-bounded-requires c κs = search needs
+smaller-requires : tie.Need-smaller-requires Inv-loop μ-loop
+smaller-requires c κs = search needs
 
 loop-holds : tie.Need-loop-holds Inv-loop μ-loop
 loop-holds c =
-    (omega arith, omega (arith, c .bounded .ensures, length-take 16 (c .before .before .args .start .now)), refl)
+    (omega arith, omega (arith, c .smaller .ensures, length-take 16 (c .before .before .args .start .now)), refl)
 
 shared-slice-read-state : tie.Need-shared-slice-read-state Inv-loop μ-loop
 shared-slice-read-state c = search needs
@@ -62,7 +62,7 @@ start-state-spec =
     (tie.spec
     Inv-loop
     μ-loop
-    bounded-requires
+    smaller-requires
     loop-holds
     shared-slice-read-state
     array-write-state
