@@ -46,6 +46,9 @@ fn tables() {
 
 #[test]
 fn queries() {
-    let compared = all(include_str!("../../crates/cases_search/stdin"));
+    let compared = all(concat!(
+        include_str!("../../crates/cases_search/stdin"),
+        include_str!("../../crates/cases_tally/stdin")
+    ));
     assert!(compared > 700, "only {compared} calls");
 }
