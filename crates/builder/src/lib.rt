@@ -14,8 +14,8 @@ ghost use Rattle.model_spec.specs.Validity.{WellFormed};
 ghost use Rattle.tables_spec.specs.Table.{tableEntries, builtTable, builtEntry};
 ghost use Rattle.tables_spec.specs.Answers.{shapeCauses, builtWith, buildOutcome, builtBuffer, BuildMeaning};
 
-// The entry that the builder gives the sequence of an index. A sequence is redundant with itself, so the search ends there
-// at the latest.
+// The entry that the builder gives the sequence of an index. A sequence is redundant with itself, so the search ends
+// there at the latest.
 fn entry_for(set: RuleSet, index: usize) -> usize
     requires { ⌜ WellFormed set × (index < tableEntries set 3) ⌝ }
     ensures { λ r. ⌜ (r ≡ builtEntry set 3 index) × (r < 65536) ⌝ }

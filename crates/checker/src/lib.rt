@@ -34,8 +34,8 @@ fn justified(set: RuleSet, table: &[u8], i: usize) -> bool
     is_redundant(set, own.vectors, own.cost, &rules[start..])
 }
 
-// Whether every entry is justified. Entry 0 has no smaller index to name, so it has to be 65535. `reach` is for the contract
-// alone: a table of a smaller reach has the sequences of reach 3 in front.
+// Whether every entry is justified. Entry 0 has no smaller index to name, so it has to be 65535. `reach` is for the
+// contract alone: the sequences of a table of a smaller reach are the first ones of reach 3.
 fn is_accepted(set: RuleSet, reach: usize, table: &[u8]) -> bool
     requires { ⌜ WellFormed set × (reach ≤ 3) × (length (now table) ≡ 2 * tableEntries set reach) ⌝ }
     ensures { λ r. ⌜ r ≡ accepted set reach (now (table .entry)) ⌝ }

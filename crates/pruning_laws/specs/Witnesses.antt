@@ -1,4 +1,5 @@
--- How the builder looks for a witness. No promise of a public call mentions this file; the laws in proofs/ equate it with `builtEntry`.
+-- How the builder looks for a witness. No promise of a call of the library needs this file: the laws in proofs/ equate
+-- it with `builtEntry`.
 use mathlib.Core.Bool.{Bool, cond, _&&_}
 use mathlib.Core.Option.{Option}
 use mathlib.Core.List.{List, [], _∷_}
@@ -21,7 +22,7 @@ firstBehind m i test (q ∷ later) = cond (test q) (indexFrom m i q) (firstBehin
 unfoldable pub serves : RuleSet → Option Lines → ℕ → Sequence → Bool
 serves set b cost a = leb (sequenceCost set a) cost && covers set a b
 
--- the first witness of a sequence with these vectors and this cost, among sequences behind one of index i, by its index;
--- 65535 if there is none. A set of more than 31 rules is not searched
+-- the first witness of a sequence with these vectors and this cost, among sequences behind one of index i, by its
+-- index; 65535 if there is none. A set of more than 31 rules is not searched
 unfoldable pub firstWitness : RuleSet → ℕ → Option Lines → ℕ → List Sequence → ℕ
 firstWitness set i b cost among = cond (leb (set .count) 31) (firstBehind (set .count) i (serves set b cost) among) kept

@@ -1,5 +1,5 @@
-// The rules of a witness: whether one runs on entries, as on a state, for what is left to spend, and the last one, which
-// has to lead to the target.
+// The rules of a witness: whether one runs on entries, as on a state, for what is left to spend, and the last one,
+// which has to lead to the target.
 use model_spec::Rule;
 use model_spec::RuleSet;
 use states::runs;
@@ -63,8 +63,8 @@ fn finishes(rule: Rule, entries: &[u8; 16], left: u16, target: &[u8; 16]) -> boo
     goes_on(rule, entries, left)
 }
 
-// Behind the sequence of `index`, which has led to these entries and left so much to spend: the index of the first sequence
-// with one more rule that leads to the target; 65535 if none does.
+// Behind the sequence of `index`, which has led to these entries and left so much to spend: the index of the first
+// sequence with one more rule that leads to the target; 65535 if none does.
 pub fn with_one_more(
     set: RuleSet,
     index: u16,

@@ -1,5 +1,5 @@
-// The search for the smallest witness of a sequence: earlier sequences are run on its condition vector, as on a state of
-// entries, by length and rule number, and each is left as soon as a rule does not run there or the cost passes the
+// The search for the smallest witness of a sequence: earlier sequences are run on its condition vector, as on a state
+// of entries, by length and rule number, and each is left as soon as a rule does not run there or the cost passes the
 // sequence's own.
 use macros_spec::Vectors;
 use model_spec::RuleSet;
@@ -17,8 +17,8 @@ ghost use Rattle.macros_spec.specs.Composition.{linesOf};
 ghost use Rattle.tables_spec.specs.Table.{sequenceCount};
 ghost use Rattle.pruning_laws.specs.Witnesses.{firstBehind, serves, firstWitness};
 
-// Behind the sequence of `index`, which has led to these entries and left so much to spend: the index of the first sequence
-// with `more` rules more, from 1 to 3, that leads to the target; 65535 if none does.
+// Behind the sequence of `index`, which has led to these entries and left so much to spend: the index of the first
+// sequence with `more` rules more, from 1 to 3, that leads to the target; 65535 if none does.
 fn with_more(
     set: RuleSet,
     more: usize,

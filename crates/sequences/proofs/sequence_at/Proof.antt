@@ -1,4 +1,5 @@
--- `sequences::sequence_at` meets its contract. The invariant: the sequence is that of `rest`, of at most `start` rules, and then the rules of the array from `start` on.
+-- `sequences::sequence_at` meets its contract. The invariant: the sequence is that of `rest`, of at most `start` rules,
+-- and then the rules of the array from `start` on.
 -- Assumes nothing.
 use mathlib.Core.Path.{_≡_, sym, ap, _∙_}
 use mathlib.Core.List.{List, [], _++_, append-nil}
@@ -15,13 +16,18 @@ use Rattle.sequences.proofs.sequence_at.Tie as tie
 
 abbrev Inv-loop : tie.InvT-loop
 Inv-loop count index many rules₀ start₀ rest₀ rules start rest =
-    (1 ≤ many) × (many ≤ 31) × (start ≤ 3) × (length rules ≡ 3) × (shortSequence count index ≡ sequenceOf many start rest ++ drop start rules)
+    (1 ≤ many)
+    × (many ≤ 31)
+    × (start ≤ 3)
+    × (length rules ≡ 3)
+    × (shortSequence count index ≡ sequenceOf many start rest ++ drop start rules)
 
 abbrev μ-loop : tie.MeasureT-loop
 μ-loop count index many rules₀ start₀ rest₀ rules start rest = start
 
 -- after the loop: nothing is left in front of the array's rules
-ended : (m start rest : ℕ) (rules sequence : List ℕ) → sequence ≡ sequenceOf m start rest ++ drop start rules → sequenceOf m start rest ≡ [] → drop start rules ≡ sequence
+ended : (m start rest : ℕ) (rules sequence : List ℕ) → sequence ≡ sequenceOf m start rest ++ drop start rules
+    → sequenceOf m start rest ≡ [] → drop start rules ≡ sequence
 ended m start rest rules sequence e none = sym (e ∙ ap (λ q. q ++ drop start rules) none)
 
 rule-count-requires : tie.Need-rule-count-requires Inv-loop μ-loop
@@ -35,13 +41,15 @@ unfolding shortSequence
 loop-holds c =
     let s = c .before .args in
     let e = c .rule-count .ensures in
-    (omega arith, omega arith, search needs, search needs, ap (λ m. sequenceOf m 3 (s .index)) (sym e) ∙ sym (append-nil (sequenceOf (c .rule-count .result) 3 (s .index))))
+    let all = sym (append-nil (sequenceOf (c .rule-count .result) 3 (s .index))) in
+    (omega arith, omega arith, search needs, search needs, ap (λ m. sequenceOf m 3 (s .index)) (sym e) ∙ all)
 
 returns : tie.Need-returns Inv-loop μ-loop
 returns c =
     let l = c .before .before in
     let m = l .before .rule-count .result in
-    (l .loop .inv .2, ended m (l .loop .start) (l .loop .rest) (l .loop .rules) _ (l .loop .inv .4) (sequence-end m (l .loop .start) (l .loop .rest) (c .if1 .taken)))
+    let none = sequence-end m (l .loop .start) (l .loop .rest) (c .if1 .taken) in
+    (l .loop .inv .2, ended m (l .loop .start) (l .loop .rest) (l .loop .rules) _ (l .loop .inv .4) none)
 
 sub-before : tie.Need-sub-before Inv-loop μ-loop
 sub-before c = search needs
@@ -86,7 +94,8 @@ returns-2 : tie.Need-returns-2 Inv-loop μ-loop
 returns-2 c =
     let l = c .before in
     let m = l .before .rule-count .result in
-    (l .loop .inv .2, ended m (l .loop .start) (l .loop .rest) (l .loop .rules) _ (l .loop .inv .4) (sequence-full m (l .loop .start) (l .loop .rest) (c .loop-test .left)))
+    let none = sequence-full m (l .loop .start) (l .loop .rest) (c .loop-test .left) in
+    (l .loop .inv .2, ended m (l .loop .start) (l .loop .rest) (l .loop .rules) _ (l .loop .inv .4) none)
 
 pub sequence-at-spec : {M : Type 1} → statement M
 sequence-at-spec =

@@ -35,11 +35,14 @@ room : (m more index k : ℕ) → 1 ≤ more → more ≤ 3 → index < sequence
 room m more index k low high h l = let e : suc (3 - more) ≡ 3 - (more - 1) = omega arith in rw (← e) (behind-bound m (3 - more) index k h l)
 
 -- and the index is small
-room-bound : (m more index k : ℕ) → m ≤ 31 → 1 ≤ more → more ≤ 3 → index < sequenceCount m (3 - more) → k < m → index * m + (k + 1) < 65536
-room-bound m more index k few low high h l = omega (arith, room m more index k low high h l, count-bound m (3 - (more - 1)) few (omega arith))
+room-bound : (m more index k : ℕ) → m ≤ 31 → 1 ≤ more → more ≤ 3 → index < sequenceCount m (3 - more) → k < m
+    → index * m + (k + 1) < 65536
+room-bound m more index k few low high h l =
+    omega (arith, room m more index k low high h l, count-bound m (3 - (more - 1)) few (omega arith))
 
 -- where one rule is to come, `with_one_more` finds it
-last-one : (set : RuleSet) (index : ℕ) (b : Option Lines) (left more found : ℕ) → set .count ≤ 31 → more ≡ 1 → found ≡ firstWitness set index b left (level (set .count) 1)
+last-one : (set : RuleSet) (index : ℕ) (b : Option Lines) (left more found : ℕ) → set .count ≤ 31 → more ≡ 1
+    → found ≡ firstWitness set index b left (level (set .count) 1)
     → found ≡ firstBehind (set .count) index (serves set b left) (level (set .count) more)
 last-one set index b left more found few one e = e ∙ witness-searched set index b left (level (set .count) 1) few ∙ rw one
 
@@ -90,7 +93,10 @@ module _ (t : ℕ) where
   with-one-more-requires c κs = search needs
 
   returns : lts.Need-returns (calls t) (at t) with-more.Post Inv μ
-  returns c = let s = c .before .before in last-one (s .args .t1) (s .args .index) _ (s .args .left) (s .args .more) _ (s .pre .1 .2) (c .before .if1 .taken) (c .with-one-more .ensures)
+  returns c =
+      let s = c .before .before in
+      last-one (s .args .t1) (s .args .index) _ (s .args .left) (s .args .more) _ (s .pre .1 .2) (c .before .if1 .taken)
+      (c .with-one-more .ensures)
 
   loop-holds : lts.Need-loop-holds (calls t) (at t) with-more.Post Inv μ
   loop-holds c = (omega arith, from-first _ _ _ _ _ _ (c .before .args .more) (omega arith))
@@ -119,7 +125,8 @@ module _ (t : ℕ) where
   cast-behind : lts.Need-cast-behind (calls t) (at t) with-more.Post Inv μ
   cast-behind c =
       let asked = c .before .before .before .before .before .before .before .before .before .before .pre .1 in
-      omega (arith, c .index-behind .ensures, room-bound _ _ _ _ (asked .2) (asked .0) (asked .1) (asked .3) (c .before .before .before .before .before .before .before .loop-test .taken))
+      let more = c .before .before .before .before .before .before .before .loop-test .taken in
+      omega (arith, c .index-behind .ensures, room-bound _ _ _ _ (asked .2) (asked .0) (asked .1) (asked .3) more)
 
   cast-rest : lts.Need-cast-rest (calls t) (at t) with-more.Post Inv μ
   cast-rest c = omega arith

@@ -22,7 +22,9 @@ use Rattle.witnesses.proofs.smallest_witness.Tie as tie
 
 module _ (set : RuleSet) (v : Vectors) (cost : ℕ) (few : set .count ≤ 31) where
   -- what is found in the set is what is asked for
-  searched : {b : Option Lines} → linesOf v ≡ b → (r : ℕ) → r ≡ firstBehind (set .count) 0 (serves set b cost) (sequences (set .count) 3) → r ≡ firstWitness set 0 (linesOf v) cost (sequences (set .count) 3)
+  searched : {b : Option Lines} → linesOf v ≡ b
+      → (r : ℕ) → r ≡ firstBehind (set .count) 0 (serves set b cost) (sequences (set .count) 3)
+      → r ≡ firstWitness set 0 (linesOf v) cost (sequences (set .count) 3)
   searched {b} is r e =
       e
       ∙ ap (λ lines. firstBehind (set .count) 0 (serves set lines cost) (sequences (set .count) 3)) (sym is)
@@ -37,7 +39,8 @@ module _ (set : RuleSet) (v : Vectors) (cost : ℕ) (few : set .count ≤ 31) wh
   abbrev aim : Sequence → Bool
   aim = serves set (some (record { condition = v .condition; effect = v .effect })) cost
 
-  admitted : v .admitted ≡ true → (r : ℕ) → r ≡ firstBehind (set .count) 0 aim (sequences (set .count) 3) → r ≡ firstWitness set 0 (linesOf v) cost (sequences (set .count) 3)
+  admitted : v .admitted ≡ true → (r : ℕ) → r ≡ firstBehind (set .count) 0 aim (sequences (set .count) 3)
+      → r ≡ firstWitness set 0 (linesOf v) cost (sequences (set .count) 3)
   admitted h = searched {b = some (record { condition = v .condition; effect = v .effect })} (rw h)
 
 abbrev Inv-loop : tie.InvT-loop
@@ -48,7 +51,9 @@ abbrev μ-loop : tie.MeasureT-loop
 μ-loop set cost condition effect more₀ more = 4 - more
 
 returns : tie.Need-returns Inv-loop μ-loop
-returns c = let s = c .before .before .args in sym (witness-unsearched (s .set) 0 (linesOf (s .sequence)) (s .cost) (sequences (s .set .count) 3) (c .if1 .taken))
+returns c =
+    let s = c .before .before .args in
+    sym (witness-unsearched (s .set) 0 (linesOf (s .sequence)) (s .cost) (sequences (s .set .count) 3) (c .if1 .taken))
 
 returns-2 : tie.Need-returns-2 Inv-loop μ-loop
 returns-2 c =
@@ -65,7 +70,8 @@ returns-3 c =
     let limit = test .before .before in
     let s = limit .before .before .args in
     admitted (s .set) (s .sequence) (s .cost) (limit .if1 .left) (not-false _ (test .if2 .left)) 0
-    (empty-found (s .set .count) (aim (s .set) (s .sequence) (s .cost) (limit .if1 .left)) (serves-last (s .set) (s .sequence .condition) (s .cost) (s .sequence .effect) ∙ sym (c .before .same-entries .ensures) ∙ c .if3 .taken))
+    (empty-found (s .set .count) (aim (s .set) (s .sequence) (s .cost) (limit .if1 .left))
+    (serves-last (s .set) (s .sequence .condition) (s .cost) (s .sequence .effect) ∙ sym (c .before .same-entries .ensures) ∙ c .if3 .taken))
 
 loop-holds : tie.Need-loop-holds Inv-loop μ-loop
 loop-holds c =
@@ -73,7 +79,8 @@ loop-holds c =
     let s = limit .before .before .args in (
       omega arith,
       omega arith,
-      empty-next (s .set .count) (aim (s .set) (s .sequence) (s .cost) (limit .if1 .left)) (serves-last (s .set) (s .sequence .condition) (s .cost) (s .sequence .effect) ∙ sym (c .before .same-entries .ensures) ∙ c .if3 .left),
+      empty-next (s .set .count) (aim (s .set) (s .sequence) (s .cost) (limit .if1 .left))
+          (serves-last (s .set) (s .sequence .condition) (s .cost) (s .sequence .effect) ∙ sym (c .before .same-entries .ensures) ∙ c .if3 .left),
     )
 
 with-more-requires : tie.Need-with-more-requires Inv-loop μ-loop
