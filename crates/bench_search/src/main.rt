@@ -6,6 +6,7 @@ use libc::STDIN_FILENO;
 use libc::STDOUT_FILENO;
 use model_spec::RuleSet;
 use search_spec::Answer;
+use tables::sequence_count;
 ghost use Prim.Native.Nat.{_+_, _*_, _≤_};
 ghost use lib.ListN.{length};
 
@@ -97,30 +98,14 @@ fn leading_bounds(text: &[u8]) -> Bounds
     }
 }
 
-// How many sequences there are: the empty one, and each of `shorter` sequences with one more rule.
-fn longer(shorter: usize, count: u8) -> usize
-    requires { ⌜ (shorter ≤ 993) × (count ≤ 31) ⌝ }
-    ensures { λ r. ⌜ r ≤ 31 * shorter + 1 ⌝ }
-{
-    shorter * (count as usize) + 1
-}
-
-// How many sequences of at most `reach` rules there are, for a reach up to 3; no rule file has more than 31 rules.
-fn sequences(count: u8, reach: usize) -> usize
+// How many entries the table of so many rules has for a reach up to 3; no rule file has more than 31 rules.
+fn entries_of(count: u8, reach: usize) -> usize
     ensures { λ r. ⌜ r ≤ 30784 ⌝ }
 {
     if 31 < count {
         return 0;
     }
-    let one = longer(1, count);
-    if reach < 2 {
-        return one;
-    }
-    let two = longer(one, count);
-    if reach < 3 {
-        return two;
-    }
-    longer(two, count)
+    sequence_count(count, reach)
 }
 
 fn print(label: &[u8], number: u64) {
@@ -154,7 +139,7 @@ fn print_moves(plan: &[u8]) {
 fn run(set: RuleSet, bounds: Bounds, start: &[u8], goal: &[u8]) {
     let mut space = [0u8; 61568];
     let mut plan = [0u8; 32];
-    let entries = sequences(set.count, bounds.reach);
+    let entries = entries_of(set.count, bounds.reach);
     let table = &mut space[0..2 * entries];
     print(
         b"built=",

@@ -5,6 +5,9 @@ use libc::STDIN_FILENO;
 use libc::STDOUT_FILENO;
 use model_spec::RuleSet;
 use std::num::wrapping_add_u64;
+use tables::KEPT;
+use tables::entry_at;
+use tables::sequence_count;
 ghost use Prim.Native.Nat.{_+_, _*_, _≤_};
 ghost use lib.ListN.{length};
 
@@ -42,34 +45,23 @@ fn leading_number(text: &[u8]) -> Number
     Number { value, size: i }
 }
 
-// How many sequences there are: the empty one, and each of `shorter` sequences with one more rule.
-fn longer(shorter: usize, count: u8) -> usize
-    requires { ⌜ (shorter ≤ 993) × (count ≤ 31) ⌝ }
-    ensures { λ r. ⌜ r ≤ 31 * shorter + 1 ⌝ }
-{
-    shorter * (count as usize) + 1
-}
-
-// How many sequences of at most three rules there are; no rule file has more than 31 rules.
-fn sequences(count: u8) -> usize
+// How many entries the table of so many rules has for reach 3; no rule file has more than 31 rules.
+fn entries_of(count: u8) -> usize
     ensures { λ r. ⌜ r ≤ 30784 ⌝ }
 {
     if 31 < count {
         return 0;
     }
-    let one = longer(1, count);
-    let two = longer(one, count);
-    longer(two, count)
+    sequence_count(count, 3)
 }
 
-// The totals with an entry, by its two bytes.
-fn with_entry(totals: Totals, low: u8, high: u8) -> Totals {
-    let entry = low as u64 + 256 * (high as u64);
+// The totals with an entry.
+fn with_entry(totals: Totals, entry: usize) -> Totals {
     let mut counted = totals;
-    if entry != 65535 {
+    if entry != KEPT {
         counted.marks = wrapping_add_u64(counted.marks, 1);
     }
-    counted.sum = wrapping_add_u64(counted.sum, entry);
+    counted.sum = wrapping_add_u64(counted.sum, entry as u64);
     counted.sums = wrapping_add_u64(counted.sums, counted.sum);
     counted
 }
@@ -81,7 +73,7 @@ fn totals_of(table: &[u8]) -> Totals {
         sums: 0,
     };
     for i in 0..table.len() / 2 {
-        totals = with_entry(totals, table[2 * i], table[2 * i + 1]);
+        totals = with_entry(totals, entry_at(table, i));
     }
     totals
 }
@@ -117,7 +109,7 @@ fn print(label: &[u8], number: u64) {
 // Builds and checks the table of a rule set.
 fn run(set: RuleSet, builds: u32, checks: u32) {
     let mut space = [0u8; 61568];
-    let entries = sequences(set.count);
+    let entries = entries_of(set.count);
     let table = &mut space[0..2 * entries];
     let built = build(set, table, builds);
     let accepted = check(set, table, checks);

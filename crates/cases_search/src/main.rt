@@ -35,6 +35,8 @@ use libc::STDIN_FILENO;
 use libc::STDOUT_FILENO;
 use model_spec::RuleSet;
 use search_spec::Answer;
+use tables::KEPT;
+use tables::entry_at;
 ghost use Prim.Native.Nat.{_≤_};
 ghost use lib.ListN.{length};
 
@@ -70,20 +72,14 @@ fn put_entries(text: &[u8], table: &mut [u8]) {
     }
 }
 
-// 1 where the entry at an index is a mark, so that one of its two bytes is not 255; else 0.
+// 1 where the entry at an index is a mark, else 0.
 fn mark(index: usize, table: &[u8]) -> u64
     ensures { λ r. ⌜ r ≤ 1 ⌝ }
 {
-    if table.len() / 2 <= index {
+    if entry_at(table, index) == KEPT {
         return 0;
     }
-    if table[2 * index] != 255 {
-        return 1;
-    }
-    if table[2 * index + 1] != 255 {
-        return 1;
-    }
-    0
+    1
 }
 
 // How many marks a table has.

@@ -23,6 +23,8 @@ use cases_common::up_to;
 use libc::STDIN_FILENO;
 use libc::STDOUT_FILENO;
 use model_spec::RuleSet;
+use tables::KEPT;
+use tables::entry_at;
 ghost use Prim.Native.Nat.{_*_, _≤_, _<_};
 ghost use lib.ListN.{length};
 
@@ -70,23 +72,6 @@ fn put_all(entries: bool, text: &[u8], table: &mut [u8]) {
     }
 }
 
-// A byte in the width of an entry.
-fn wide(byte: u8) -> usize
-    ensures { λ r. ⌜ r < 256 ⌝ }
-{
-    byte as usize
-}
-
-// The entry at an index; that of a kept sequence where the table has no such index.
-fn entry_at(index: usize, table: &[u8]) -> usize
-    ensures { λ r. ⌜ r < 65536 ⌝ }
-{
-    if table.len() / 2 <= index {
-        return 65535;
-    }
-    wide(table[2 * index]) + 256 * wide(table[2 * index + 1])
-}
-
 // The index of a sequence without its last rule; of the empty sequence its own.
 fn shorter(count: u8, index: usize) -> usize {
     if index == 0 {
@@ -132,7 +117,7 @@ fn print_sequence(count: u8, index: usize) {
 
 // A mark, if the entry is one.
 fn print_mark(count: u8, index: usize, entry: usize) {
-    if entry == 65535 {
+    if entry == KEPT {
         return;
     }
     print(b"; ");
@@ -144,7 +129,7 @@ fn print_mark(count: u8, index: usize, entry: usize) {
 // All marks of a table, in order.
 fn print_marks(count: u8, table: &[u8]) {
     for i in 0..table.len() / 2 {
-        let entry = entry_at(i, table);
+        let entry = entry_at(table, i);
         print_mark(count, i, entry);
     }
 }
@@ -153,7 +138,7 @@ fn print_marks(count: u8, table: &[u8]) {
 fn mark(entry: usize) -> usize
     ensures { λ r. ⌜ r ≤ 1 ⌝ }
 {
-    if entry == 65535 {
+    if entry == KEPT {
         return 0;
     }
     1
@@ -164,7 +149,7 @@ fn weight(index: usize, entry: usize) -> usize
     requires { ⌜ (index < 32768) × (entry < 65536) ⌝ }
     ensures { λ r. ⌜ r ≤ 2147483648 ⌝ }
 {
-    if entry == 65535 {
+    if entry == KEPT {
         return 0;
     }
     index * (entry + 1)
@@ -176,7 +161,7 @@ fn marks_of(table: &[u8]) -> usize
 {
     let mut marks: usize = 0;
     for i in 0..table.len() / 2 {
-        let entry = entry_at(i, table);
+        let entry = entry_at(table, i);
         marks += mark(entry);
     }
     marks
@@ -188,7 +173,7 @@ fn sum_of(table: &[u8]) -> usize
 {
     let mut sum: usize = 0;
     for i in 0..table.len() / 2 {
-        let entry = entry_at(i, table);
+        let entry = entry_at(table, i);
         sum += weight(i, entry);
     }
     sum
@@ -268,9 +253,9 @@ fn run_table(set: RuleSet, verb: u8, text: &[u8], table: &mut [u8])
 // The sequence of an index, and its entry.
 fn print_entry(count: u8, text: &[u8], table: &[u8]) {
     let index = number_of(text);
-    let entry = entry_at(index, table);
+    let entry = entry_at(table, index);
     print_sequence(count, index);
-    if entry == 65535 {
+    if entry == KEPT {
         print(b" kept");
         return;
     }

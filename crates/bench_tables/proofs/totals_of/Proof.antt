@@ -15,20 +15,8 @@ abbrev μ-loop : tie.MeasureT-loop
 loop-holds : tie.Need-loop-holds Inv-loop μ-loop
 loop-holds c = search needs
 
-mul-with-entry : tie.Need-mul-with-entry Inv-loop μ-loop
-mul-with-entry c = search needs
-
-shared-slice-read-with-entry : tie.Need-shared-slice-read-with-entry Inv-loop μ-loop
-shared-slice-read-with-entry c = search needs
-
-mul-with-entry-2 : tie.Need-mul-with-entry-2 Inv-loop μ-loop
-mul-with-entry-2 c = search needs
-
-add-with-entry : tie.Need-add-with-entry Inv-loop μ-loop
-add-with-entry c = search needs
-
-shared-slice-read-with-entry-2 : tie.Need-shared-slice-read-with-entry-2 Inv-loop μ-loop
-shared-slice-read-with-entry-2 c = search needs
+entry-at-requires : tie.Need-entry-at-requires Inv-loop μ-loop
+entry-at-requires c κs = search needs
 
 with-entry-requires : tie.Need-with-entry-requires Inv-loop μ-loop
 with-entry-requires c κs = search needs
@@ -52,11 +40,7 @@ totals-of-spec =
     Inv-loop
     μ-loop
     loop-holds
-    mul-with-entry
-    shared-slice-read-with-entry
-    mul-with-entry-2
-    add-with-entry
-    shared-slice-read-with-entry-2
+    entry-at-requires
     with-entry-requires
     add-i
     loop-less
