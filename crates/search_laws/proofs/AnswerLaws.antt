@@ -16,11 +16,11 @@ use Rattle.theory_spec.proofs.ListLaws.{not-both}
 use Rattle.model_spec.specs.Refusals.{firstRefusal}
 use Rattle.model_spec.specs.Rules.{sequenceCost}
 use Rattle.model_spec.specs.declared.RuleSet.{RuleSet}
-use Rattle.search_spec.specs.Query.{Query, asked, visitedBy, plansFor}
-use Rattle.search_spec.specs.Searched.{queryCauses, cheapestPlan, noMove, Searched, searched, NotRefused, SearchMeaning}
+use Rattle.search_spec.specs.Query.{Query, visitedBy}
+use Rattle.search_spec.specs.Searched.{queryCauses, cheapestPlan, noMove, Searched, searched, SearchMeaning}
 use Rattle.search_spec.specs.declared.Answer.{Answer}
 use Rattle.search_spec.proofs.Demand.{cheapest-leads}
-use Rattle.search_spec.proofs.MeaningLaws.{not-refused-iff, unrefused-iff, search-meaning}
+use Rattle.search_spec.proofs.MeaningLaws.{unrefused-iff, search-meaning}
 use Rattle.search_spec.proofs.OutcomeLaws.{withoutPlan, searched-limited, searched-unsolvable, searched-solved}
 use Rattle.search_laws.specs.Visits.{bestOf, noBest, asBest, Explored}
 use Rattle.model_spec.proofs.CopyLaws.{copied-padded}
