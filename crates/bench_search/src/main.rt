@@ -7,7 +7,7 @@ use libc::STDOUT_FILENO;
 use model_spec::RuleSet;
 use search_spec::Answer;
 use tables::sequence_count;
-ghost use Prim.Native.Nat.{_+_, _*_, _≤_};
+ghost use Prim.Native.Nat.{_≤_};
 ghost use lib.ListN.{length};
 
 // A number at the start of a text, the byte that ends its digits (0 where the text does), and how many bytes it takes with that one.

@@ -8,7 +8,7 @@ use std::num::wrapping_add_u64;
 use tables::KEPT;
 use tables::entry_at;
 use tables::sequence_count;
-ghost use Prim.Native.Nat.{_+_, _*_, _≤_};
+ghost use Prim.Native.Nat.{_≤_};
 ghost use lib.ListN.{length};
 
 // A number at the start of a text, and how many bytes its digits take with the byte that ends them.

@@ -71,7 +71,7 @@ fn with_digit(number: usize, digit: u8) -> usize
     tens + ones
 }
 
-// The number of a text.
+// The number of a text: each byte is the digit of its low four bits; the largest number where that is too large.
 pub fn number_of(text: &[u8]) -> usize
     ensures { λ r. ⌜ r ≡ numberOf (now (text .entry)) ⌝ }
 {

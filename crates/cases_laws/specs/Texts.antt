@@ -27,11 +27,11 @@ largest = 18446744073709551615
 unfoldable pub withDigit : ℕ → ℕ → ℕ
 withDigit byte number = min (10 * number + byte % 16) largest
 
--- the number of a text
+-- the number of a text: each byte is the digit of its low four bits
 unfoldable pub numberOf : List ℕ → ℕ
 numberOf text = foldOver withDigit 0 text
 
--- a table with a value at an index, low byte first; no table has an index of 32,768 or more
+-- a table with a value at an index below 32,768, low byte first; at another index nothing is put: no table is so long
 unfoldable pub withEntry : ℕ → ℕ → List ℕ → List ℕ
 withEntry index value table =
     cond (leb 32768 index) table (set (set table (2 * index) (value % 256)) (2 * index + 1) (value / 256 % 256))

@@ -1,5 +1,5 @@
-// Runs the search and the plan handed back on the cases of standard input and prints what they give. A case is a
-// line: a letter, a space and a text. Each line is printed again, cut at 120 bytes, with the answer after it. A line
+// Runs the search, the plan handed back and the calls on tallies on the cases of standard input and prints what
+// they give. A case is a line: a letter, a space and a text. Each line is printed again, cut at 120 bytes, with the answer after it. A line
 // that begins with `#` is a heading. A number too large for 64 bits counts as the largest that is not.
 // - `f` read the text, in which `/` stands for a line feed: the outcome. Its set is the one of the lines that follow
 // - `s` change the set's number of positions and its number of rules to these two: whether it is valid
@@ -12,6 +12,15 @@
 //   `plan_part` hands them back; whether every other byte of the buffer is 255. Start and goal have commas between
 //   their bytes, `-` is one of no bytes. A byte above 255 counts as 255, a cost bound above 65,535, a step limit
 //   above 4,294,967,295 and a room above 4,096 as these numbers
+// - `c` five counts with commas between, plans found, no plan, step limit exceeded, refused and steps: they are the
+//   tally that then stands: the tally. All five are 0 before the first line
+// - `k` the same as for `q`: a search that updates the tally that stands, with the first `room` bytes of the plan
+//   buffer that stands: what `q` gives, and the tally. This buffer has 4,096 bytes, each 170 before the first line;
+//   each `k` finds it as the last one left it, and `q` does not use it
+// - `u` an outcome and a number of steps: the tally that stands after a query with these: once by value, once where
+//   it is kept. An outcome above 255 counts as 255, steps above 4,294,967,295 as that number
+// - `p` a length and a room: the plan handed back for that length from the first `room` bytes of the plan buffer
+//   that stands: its bytes
 // A board of three by three cells has a position for each cell, row by row, that holds 0 for a blank (blanks are
 // alike) or the number of a tile. Its 24 rules are in the order of their names in source 000, by row, column and
 // direction, as in `cases_tables`: 1 is 11D, 5 is 12R, 9 is 21R, 19 is 31U.
@@ -25,7 +34,7 @@
 use bounded::smaller;
 use buffers::fill_from;
 use bytes::scan::find;
-use cases_buffers::list_of;
+use cases_buffers::put_byte;
 use cases_buffers::put_entry;
 use cases_common::behind;
 use cases_common::decode;
@@ -35,15 +44,46 @@ use libc::STDIN_FILENO;
 use libc::STDOUT_FILENO;
 use model_spec::RuleSet;
 use search_spec::Answer;
+use search_spec::Tally;
 use tables::KEPT;
 use tables::entry_at;
 ghost use Prim.Native.Nat.{_≤_};
 ghost use lib.ListN.{length};
 
-// What the lines before leave: the rule set, and how many bytes the table that stands has.
+// Puts the numbers of a comma list into a buffer, as far as there is room, 255 for each that is larger; gives how many
+// these are. `-` is the empty list.
+fn list_of(text: &[u8], bytes: &mut [u8]) -> usize
+    ensures { λ r. ⌜ r ≤ length (now (bytes .entry)) ⌝ }
+{
+    let mut count: usize = 0;
+    let mut from: usize = 0;
+    if find(text, 0, text.len(), b'-') == 0 {
+        return 0;
+    }
+    while count < bytes.len() {
+        if text.len() <= from {
+            return count;
+        }
+        let rest = &text[from..];
+        let size = find(rest, 0, rest.len(), b',');
+        put_byte(count, smaller(number_of(&rest[0..size]), 255), bytes);
+        count += 1;
+        from += size + 1;
+    }
+    count
+}
+
+// What the lines before leave: the rule set, how many bytes the table that stands has, and the tally.
 struct Standing {
     set: RuleSet,
     size: usize,
+    tally: Tally,
+}
+
+// An answer, and the tally updated by it.
+struct Counted {
+    answer: Answer,
+    tally: Tally,
 }
 
 fn print(text: &[u8]) {
@@ -178,7 +218,110 @@ fn print_answer(answer: Answer, plan: &[u8]) {
     print_plan(answer.length as usize, plan);
 }
 
-// The search for a start and a goal, with a plan buffer over bytes of 170; the text holds moves, cost, limit and room.
+// A search with a plan buffer over bytes of 170.
+fn print_search(
+    set: RuleSet,
+    reach: usize,
+    table: &[u8],
+    start: &[u8],
+    goal: &[u8],
+    moves: usize,
+    cost: u16,
+    limit: u32,
+    plan: &mut [u8],
+) {
+    fill_from(plan, 0, 170);
+    let answer = search::search(set, reach, table, start, goal, moves, cost, limit, plan);
+    print_answer(answer, plan);
+}
+
+// The counts of a tally, with commas between.
+fn print_tally(tally: Tally) {
+    print_number(tally.solved);
+    print(b",");
+    print_number(tally.unsolvable);
+    print(b",");
+    print_number(tally.limited);
+    print(b",");
+    print_number(tally.refused);
+    print(b",");
+    print_number(tally.steps);
+}
+
+// A search with a tally that is kept in a local.
+fn counted_search(
+    set: RuleSet,
+    reach: usize,
+    table: &[u8],
+    start: &[u8],
+    goal: &[u8],
+    max_moves: usize,
+    max_cost: u16,
+    step_limit: u32,
+    plan: &mut [u8],
+    tally: Tally,
+) -> Counted {
+    let mut local = tally;
+    let answer = tallied_search::search_with_tally(
+        set,
+        reach,
+        table,
+        start,
+        goal,
+        max_moves,
+        max_cost,
+        step_limit,
+        plan,
+        &mut local,
+    );
+    Counted {
+        answer,
+        tally: local,
+    }
+}
+
+// The update of a tally that is kept in a local.
+fn updated(tally: Tally, outcome: u8, steps: u32) -> Tally {
+    let mut local = tally;
+    tally::update(&mut local, outcome, steps);
+    local
+}
+
+// A search that updates the tally, with a plan buffer as it is; gives the tally.
+fn print_tallied_search(
+    set: RuleSet,
+    reach: usize,
+    table: &[u8],
+    start: &[u8],
+    goal: &[u8],
+    moves: usize,
+    cost: u16,
+    limit: u32,
+    plan: &mut [u8],
+    tally: Tally,
+) -> Tally {
+    let counted = counted_search(
+        set,
+        reach,
+        table,
+        start,
+        goal,
+        moves,
+        cost,
+        limit,
+        plan,
+        tally,
+    );
+    let answer = counted.answer;
+    let next = counted.tally;
+    print_answer(answer, plan);
+    print(b"; tally ");
+    print_tally(next);
+    next
+}
+
+// The search for a start and a goal, with the tally or without; the text holds moves, cost, limit and room. Gives the
+// tally.
 fn print_found(
     set: RuleSet,
     reach: usize,
@@ -187,7 +330,9 @@ fn print_found(
     goal: &[u8],
     text: &[u8],
     plan: &mut [u8],
-) {
+    tally: Tally,
+    counted: bool,
+) -> Tally {
     let moves = number_of(up_to(b' ', text));
     let bounds = behind(b' ', text);
     let cost = smaller(number_of(up_to(b' ', bounds)), 65535) as u16;
@@ -195,16 +340,35 @@ fn print_found(
     let limit = smaller(number_of(up_to(b' ', limits)), 4294967295) as u32;
     let room = smaller(number_of(behind(b' ', limits)), plan.len());
     let part = &mut plan[0..room];
-    fill_from(part, 0, 170);
-    let answer = search::search(set, reach, table, start, goal, moves, cost, limit, part);
-    print_answer(answer, part);
+    if counted {
+        return print_tallied_search(
+            set,
+            reach,
+            table,
+            start,
+            goal,
+            moves,
+            cost,
+            limit,
+            part,
+            tally,
+        );
+    }
+    print_search(set, reach, table, start, goal, moves, cost, limit, part);
+    tally
 }
 
-// The search of a text.
-fn print_query(set: RuleSet, text: &[u8], table: &[u8]) {
+// The search of a text with this plan buffer, with the tally or without; gives the tally.
+fn print_query(
+    set: RuleSet,
+    text: &[u8],
+    table: &[u8],
+    plan: &mut [u8],
+    tally: Tally,
+    counted: bool,
+) -> Tally {
     let mut starts = io::buffer();
     let mut goals = io::buffer();
-    let mut plan = io::buffer();
     let reach = number_of(up_to(b' ', text));
     let states = behind(b' ', text);
     let start = list_of(up_to(b' ', states), &mut starts);
@@ -218,8 +382,63 @@ fn print_query(set: RuleSet, text: &[u8], table: &[u8]) {
         &starts[0..start],
         &goals[0..goal],
         numbers,
-        &mut plan,
-    );
+        plan,
+        tally,
+        counted,
+    )
+}
+
+// The answer to `q`: a plan buffer of its own, and the tally as it was.
+fn print_untallied(set: RuleSet, text: &[u8], table: &[u8], tally: Tally) -> Tally {
+    let mut plan = io::buffer();
+    print_query(set, text, table, &mut plan, tally, false)
+}
+
+// The tally of a comma list.
+fn tally_of(text: &[u8]) -> Tally {
+    let solved = number_of(up_to(b',', text)) as u64;
+    let second = behind(b',', text);
+    let unsolvable = number_of(up_to(b',', second)) as u64;
+    let third = behind(b',', second);
+    let limited = number_of(up_to(b',', third)) as u64;
+    let fourth = behind(b',', third);
+    let refused = number_of(up_to(b',', fourth)) as u64;
+    let steps = number_of(behind(b',', fourth)) as u64;
+    Tally {
+        solved,
+        unsolvable,
+        limited,
+        refused,
+        steps,
+    }
+}
+
+// The answer to `c`; gives the tally.
+fn print_set_tally(text: &[u8]) -> Tally {
+    let tally = tally_of(text);
+    print(b"tally ");
+    print_tally(tally);
+    tally
+}
+
+// The answer to `u`; gives the tally.
+fn print_updates(tally: Tally, text: &[u8]) -> Tally {
+    let outcome = smaller(number_of(up_to(b' ', text)), 255) as u8;
+    let steps = smaller(number_of(behind(b' ', text)), 4294967295) as u32;
+    print(b"by value ");
+    print_tally(tally::tallied(tally, outcome, steps));
+    let next = updated(tally, outcome, steps);
+    print(b"; by reference ");
+    print_tally(next);
+    next
+}
+
+// The answer to `p`.
+fn print_part(text: &[u8], plan: &[u8]) {
+    let size = number_of(up_to(b' ', text));
+    let room = smaller(number_of(behind(b' ', text)), plan.len());
+    print(b"part ");
+    print_moves(answers::plan_part(&plan[0..room], size));
 }
 
 // The set of a text, with its outcome printed.
@@ -257,7 +476,7 @@ fn next_set(set: RuleSet, verb: u8, text: &[u8]) -> RuleSet {
     set
 }
 
-// The size of the table that stands after a case: of `b` and `t` the one that they give. The answer to `q`.
+// The size of the table that stands after a case: of `b` and `t` the one that they give.
 fn next_size(set: RuleSet, size: usize, verb: u8, text: &[u8], table: &mut [u8]) -> usize {
     if verb == b'b' {
         return built(set, text, table);
@@ -265,10 +484,35 @@ fn next_size(set: RuleSet, size: usize, verb: u8, text: &[u8], table: &mut [u8])
     if verb == b't' {
         return made(text, table);
     }
-    if verb == b'q' {
-        print_query(set, text, &table[0..smaller(size, table.len())]);
-    }
     size
+}
+
+// The tally after a case, by its letter; any other leaves it.
+fn next_tally(
+    set: RuleSet,
+    tally: Tally,
+    verb: u8,
+    text: &[u8],
+    table: &[u8],
+    plan: &mut [u8],
+) -> Tally {
+    if verb == b'c' {
+        return print_set_tally(text);
+    }
+    if verb == b'u' {
+        return print_updates(tally, text);
+    }
+    if verb == b'p' {
+        print_part(text, plan);
+        return tally;
+    }
+    if verb == b'k' {
+        return print_query(set, text, table, plan, tally, true);
+    }
+    if verb == b'q' {
+        return print_untallied(set, text, table, tally);
+    }
+    tally
 }
 
 // The line, cut at 120 bytes.
@@ -282,7 +526,7 @@ fn print_line(line: &[u8]) {
 }
 
 // One case, or a heading, on a line of the input; gives what stands for the next line.
-fn run(standing: Standing, line: &[u8], table: &mut [u8]) -> Standing {
+fn run(standing: Standing, line: &[u8], table: &mut [u8], plan: &mut [u8]) -> Standing {
     if line.len() < 2 {
         return standing;
     }
@@ -294,25 +538,32 @@ fn run(standing: Standing, line: &[u8], table: &mut [u8]) -> Standing {
     print(b": ");
     let set = next_set(standing.set, line[0], &line[2..]);
     let size = next_size(set, standing.size, line[0], &line[2..], table);
+    let stands = &table[0..smaller(size, table.len())];
+    let tally = next_tally(set, standing.tally, line[0], &line[2..], stands, plan);
     print(b"\n");
-    Standing { set, size }
+    Standing { set, size, tally }
 }
 
-// What stands before the first line: the empty set, and no table.
+// What stands before the first line: the empty set, no table, and a tally of 0 throughout.
 fn first_standing() -> Standing {
     let empty = reader::read(b"");
     let set = empty.set;
-    Standing { set, size: 0 }
+    let tally = tally_of(b"");
+    Standing {
+        set,
+        size: 0,
+        tally,
+    }
 }
 
 // The cases of all lines.
-fn run_lines(input: &[u8], table: &mut [u8]) {
+fn run_lines(input: &[u8], table: &mut [u8], plan: &mut [u8]) {
     let mut standing = first_standing();
     let mut from: usize = 0;
     while from < input.len() {
         let rest = &input[from..];
         let size = find(rest, 0, rest.len(), b'\n');
-        standing = run(standing, &rest[0..size], table);
+        standing = run(standing, &rest[0..size], table, plan);
         from += size + 1;
     }
 }
@@ -320,6 +571,8 @@ fn run_lines(input: &[u8], table: &mut [u8]) {
 fn main() {
     let mut input = io::large_buffer();
     let mut table = io::large_buffer();
+    let mut plan = io::buffer();
+    fill_from(&mut plan, 0, 170);
     let n = io::read_full(STDIN_FILENO, &mut input);
-    run_lines(&input[..n], &mut table);
+    run_lines(&input[..n], &mut table, &mut plan);
 }

@@ -106,7 +106,7 @@ fn followed(effect: [u8; 16], entries: [u8; 16]) -> [u8; 16]
     next
 }
 
-// A rule after a sequence.
+// A rule after a sequence; one that no state admits stays so.
 pub fn extended(sequence: Vectors, rule: Rule) -> Vectors
     ensures { λ r. ⌜ r ≡ asVectors (extended rule (linesOf sequence)) ⌝ }
 {

@@ -3,8 +3,6 @@ use bounded::smaller;
 use output::put;
 use output::put_number;
 use separators::ending;
-ghost use mathlib.Core.Path.{_≡_};
-ghost use Prim.Native.Nat.{min};
 ghost use Rattle.files_spec.specs.Text.{numeral};
 ghost use Rattle.files_spec.specs.File.{entryText};
 ghost use Rattle.output_laws.specs.Overlay.{Laid, listText};

@@ -28,7 +28,7 @@ fn tail_index(count: usize, index: usize) -> usize
     ((before - 1) % count + 1) * count + newest
 }
 
-// The look-up of a table, by how many rules the set has: a suffix of a sequence is the sequence itself, or one of what
+// The look-up of a table, by how many rules the set has, of which 31 count: a suffix of a sequence is the sequence itself, or one of what
 // is left without its first rule.
 pub fn lookup_of(count: u8, table: &[u8]) -> [u8; 30784]
     ensures { λ r. ⌜ LooksUp (min count 31) (now (table .entry)) r ⌝ }

@@ -1,4 +1,4 @@
--- What the tests of a rule set tell once they pass: the bound that the test for duplicates indexes by.
+-- What a well-formed set tells of its number of rules: at most 31, so the test for duplicates looks at all of them.
 -- Assumes nothing.
 use Prim.Native.Nat.{_≤_}
 use mathlib.Core.Path.{_≡_}

@@ -41,7 +41,7 @@ fn place_of(number: u8) -> usize
     (number - 1) as usize
 }
 
-// The rule of a number; that of 31 for a larger number.
+// The rule of a number; that of 1 for 0, and that of 31 for a larger number.
 pub fn rule_at(set: RuleSet, number: u8) -> Rule
     ensures { λ r. ⌜ r ≡ ruleAt set (min number 31) ⌝ }
 {
@@ -49,7 +49,7 @@ pub fn rule_at(set: RuleSet, number: u8) -> Rule
     set.rules[place]
 }
 
-// What the rule of a number costs; nothing where there is none.
+// What the rule of a number costs: as that of 1 for 0, and nothing above 31.
 fn cost_at(set: RuleSet, number: u8) -> u8
     ensures { λ r. ⌜ r ≡ ruleAt set number .cost ⌝ }
 {

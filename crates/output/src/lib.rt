@@ -3,7 +3,7 @@
 use bounded::smaller;
 ghost use mathlib.Core.Path.{_≡_};
 ghost use mathlib.Core.List.{[], _∷_, _++_};
-ghost use Prim.Native.Nat.{_≤_, _<_, min};
+ghost use Prim.Native.Nat.{_≤_, _<_};
 ghost use Rattle.files_spec.specs.Text.{lineFeed, digit, numeral};
 ghost use Rattle.output_laws.specs.Overlay.{placeAfter, Laid, shownNumeral};
 

@@ -1,1 +1,1 @@
-// Texts laid over a buffer: a definition and laws.
+// Texts laid over a buffer: definitions that its functions promise, and laws.

@@ -25,7 +25,8 @@ fn width_at(positions: u8, sizes: &[u8; 16], i: usize) -> u8
     1
 }
 
-// Whether an entry at place i is within its limit: a constant below the size there, or the variable of a position.
+// Whether an entry at place i is within its limit: a constant below the size there, beyond the
+// positions 0 alone, or the variable of a position.
 pub fn entry_limited(positions: u8, sizes: &[u8; 16], i: usize, entry: u8) -> bool
     ensures { λ r. ⌜ r ≡ entryLimited positions (now (sizes .entry)) i entry ⌝ }
 {

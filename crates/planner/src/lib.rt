@@ -63,7 +63,7 @@ pub extern "C" fn planner_check_table(rules: &[u8], table: &[u8], reach: usize) 
 pub extern "C" fn planner_macro(rules: &[u8], moves: &[u8], out: &mut [u8]) -> u8
     ensures { λ r. ⌜ (r ≡ textMacro (now (rules .entry)) (now (moves .entry)) .outcome) × (now (out .exit) ≡ macroBuffer (length (now (out .entry))) (textMacro (now (rules .entry)) (now (moves .entry)) .result)) × TextMacroMeaning (now (rules .entry)) (now (moves .entry)) (length (now (out .entry))) r (now (out .exit)) ⌝ }
 {
-    text_macro::macro_of(rules, moves, out)
+    text_macros::macro_of(rules, moves, out)
 }
 
 // Searches for the cheapest plan of a query; the answer is packed.

@@ -1,7 +1,7 @@
 // The reader of rule files: what its lines give, then the end of the text and duplicates.
 use blanks::empty_set;
-use file_lines::file_lines;
 use files_spec::Reading;
+use read_file::file_lines;
 use reader_laws::FoundSet;
 ghost use mathlib.Core.Path.{_≡_};
 ghost use Rattle.files_spec.specs.Reading.{fileLines, reading};

@@ -11,7 +11,7 @@ pub struct FoundNumber {
     pub next: usize,
 }
 
-// A number or an entry within its limit. After a key the value is 0.
+// A number or an entry within its limit; after a key only outcome and place count.
 pub struct Found {
     pub outcome: u8,
     pub value: u8,

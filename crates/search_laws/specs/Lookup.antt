@@ -1,4 +1,5 @@
--- The look-up that spares the search a look at each segment: one byte for each index, whether a suffix of its sequence is marked. No promise of a public call mentions this file.
+-- The look-up that spares the search a look at each segment: one byte for each index, whether a suffix of its sequence is
+-- marked. No promise of a call needs this file, only those of functions below the calls.
 use mathlib.Core.Path.{_≡_}
 use mathlib.Core.Bool.{Bool, not, cond, _&&_}
 use mathlib.Core.List.{List}
@@ -19,7 +20,7 @@ markedAt m table q = not (eqb (entryAt table (indexOf m q)) kept)
 unfoldable pub suffixMarked : ℕ → List ℕ → Sequence → Bool
 suffixMarked m table q = any (markedAt m table) (suffixes q)
 
--- the look-up of a table of at most three rules: at each index 1 if the table has an entry there and a suffix of its
+-- the look-up of a table of a reach of at most 3: at each index 1 if the table has an entry there and a suffix of its
 -- sequence is marked, else 0
 abbrev pub LooksUp : ℕ → List ℕ → List ℕ → Type 0
 LooksUp m table blocked =

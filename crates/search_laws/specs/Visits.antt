@@ -1,5 +1,5 @@
--- How the search goes about it, over what it lends to itself: the rules' lines and costs, the look-up, the goal and the limits. No promise of a public call mentions this file;
--- the laws in proofs/ equate it with the definitions of `search_spec`.
+-- How the search goes about it, over what it lends to itself: the rules' lines and costs, the look-up, the goal and the
+-- limits. No promise of a call needs this file, only those of functions below the calls; the laws in proofs/ equate it with the definitions of `search_spec`.
 use mathlib.Core.Path.{_≡_}
 use mathlib.Core.Logic.{_≢_}
 use mathlib.Core.Bool.{Bool, true, false, not, cond, _&&_, _||_}

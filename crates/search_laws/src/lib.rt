@@ -1,4 +1,5 @@
-// How the search goes about it: the types that it passes along, definitions that its functions promise, and laws. No promise of a public call of the library rests on a reading of these.
+// How the search goes about it: the types that it passes along, definitions that its functions promise, and laws. No
+// promise of a call needs these, only those of functions below the calls.
 
 // The best plan met so far. Its moves are rule numbers, with 255 in every other byte.
 pub struct Best {

@@ -2,15 +2,15 @@
 use composition::empty;
 use composition::extended;
 use model_spec::RuleSet;
-use pruning_laws::Profile;
-use pruning_laws::ShortSequence;
+use tables_laws::Profile;
+use tables_laws::ShortSequence;
 ghost use mathlib.Core.Path.{_≡_};
 ghost use Prim.Native.Nat.{min, max, _≤_};
 ghost use lib.ListN.{length, drop};
 ghost use Rattle.theory_spec.specs.Sequences.{Numbered};
 ghost use Rattle.model_spec.specs.Rules.{sequenceCost};
 ghost use Rattle.macros_spec.specs.Composition.{composed, asVectors};
-ghost use Rattle.pruning_laws.specs.ShortSequences.{shortSequence};
+ghost use Rattle.tables_laws.specs.ShortSequences.{shortSequence};
 
 // A number of rules as a valid set may have it, from 1 to 31: the nearest one.
 fn rule_count(count: u8) -> u8
@@ -25,7 +25,8 @@ fn rule_count(count: u8) -> u8
     count
 }
 
-// The sequence of an index. Its last rule is found first.
+// The sequence of an index, of at most three rules: the last three of a longer one. Its last rule is found first.
+// A number of rules outside 1 to 31 counts as the nearest of these.
 pub fn sequence_at(count: u8, index: usize) -> ShortSequence
     ensures { λ r. ⌜
         (r .start ≤ 3)
@@ -66,7 +67,7 @@ fn profile_of(set: RuleSet, moves: &[u8]) -> Profile
     Profile { vectors, cost }
 }
 
-// The vectors and the cost of the sequence of an index.
+// The vectors and the cost of the sequence of an index, as `sequence_at` has it.
 pub fn profile_at(set: RuleSet, index: usize) -> Profile
     ensures { λ r. ⌜
         (r .vectors ≡ asVectors (composed set (shortSequence (set .count) index)))

@@ -39,7 +39,8 @@ fn put_marks(text: &mut [u8], at: usize, count: u8, table: &[u8]) -> usize
     next
 }
 
-// Lays the listing of a table for so many rules, from the start of the text on.
+// Lays the listing of a table of reach 2 for so many rules, from the start of the text on; more than 999 marks are
+// counted as 999.
 pub fn put_table(text: &mut [u8], count: u8, table: &[u8]) -> usize
     ensures { λ r. ⌜ Laid 0 (tableText count (now (table .entry))) (now (text .entry)) r (now (text .exit)) ⌝ }
 {

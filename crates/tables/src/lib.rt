@@ -88,7 +88,7 @@ pub fn table_size(set: RuleSet, reach: usize) -> TableSize
     size_for(set, reach)
 }
 
-// Once the set is judged, the first of the causes that all calls on a table share that holds: 5 or 6; 0 if neither does.
+// Once the set is judged: 5 for a bad reach, 6 for a table of another length, else 0.
 pub fn shape_refusal(set: RuleSet, reach: usize, size: usize) -> u8
     ensures { λ r. ⌜ r ≡ firstRefusal (shapeCauses set reach size) ⌝ }
 {

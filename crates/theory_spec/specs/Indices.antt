@@ -1,5 +1,5 @@
 -- The index of a sequence by arithmetic, the number (r₁ · m + r₂) · m + r₃ and so on, and back.
--- No promise of a public call mentions this file: document 01's index is a position in `sequences`, and the laws `index-at` and `sequence-at` say that the two are the same.
+-- No promise of a call needs this file, only those of functions below the calls: document 01's index is a position in `sequences`, and the laws `index-at` and `sequence-at` say that the two are the same.
 use mathlib.Core.List.{[], _∷_, _++_}
 use Prim.Native.Nat.{ℕ, zero, suc, _+_, _*_, _/_, _%_}
 use Rattle.theory_spec.specs.Sequences.{Sequence}

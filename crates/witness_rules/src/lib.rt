@@ -13,7 +13,7 @@ ghost use lib.Dec.{leb};
 ghost use Rattle.theory_spec.specs.Lists.{same};
 ghost use Rattle.theory_spec.specs.Sequences.{level};
 ghost use Rattle.model_spec.specs.States.{applicable, successor};
-ghost use Rattle.pruning_laws.specs.Witnesses.{firstWitness};
+ghost use Rattle.tables_laws.specs.Witnesses.{firstWitness};
 
 // The index of a sequence with one more rule.
 pub fn index_behind(index: u16, count: u8, number: u8) -> usize
@@ -64,7 +64,8 @@ fn finishes(rule: Rule, entries: &[u8; 16], left: u16, target: &[u8; 16]) -> boo
 }
 
 // Behind the sequence of `index`, which has led to these entries and left so much to spend: the index of the first
-// sequence with one more rule that leads to the target; 65535 if none does.
+// sequence with one more rule that leads to the target; 65535 if none does,
+// and for a set of more than 31 rules.
 pub fn with_one_more(
     set: RuleSet,
     index: u16,

@@ -15,7 +15,7 @@ ghost use Prim.Native.Nat.{_-_, _≤_, _<_};
 ghost use Rattle.theory_spec.specs.Sequences.{level, sequences};
 ghost use Rattle.macros_spec.specs.Composition.{linesOf};
 ghost use Rattle.tables_spec.specs.Table.{sequenceCount};
-ghost use Rattle.pruning_laws.specs.Witnesses.{firstBehind, serves, firstWitness};
+ghost use Rattle.tables_laws.specs.Witnesses.{firstBehind, serves, firstWitness};
 
 // Behind the sequence of `index`, which has led to these entries and left so much to spend: the index of the first
 // sequence with `more` rules more, from 1 to 3, that leads to the target; 65535 if none does.
@@ -58,7 +58,7 @@ fn with_more(
 }
 
 // The smallest index of a sequence of at most three rules with which one with these vectors and this cost is redundant;
-// 65535 if there is none.
+// 65535 if there is none, and for a set of more than 31 rules.
 pub fn smallest_witness(set: RuleSet, sequence: Vectors, cost: u16) -> usize
     ensures { λ r. ⌜ r ≡ firstWitness set 0 (linesOf sequence) cost (sequences (set .count) 3) ⌝ }
 {

@@ -15,12 +15,12 @@ use Rattle.macros_spec.specs.Composition.{composed, asVectors, linesOf}
 use Rattle.macros_spec.specs.declared.Vectors.{Vectors}
 use Rattle.macros_spec.proofs.ExtensionLaws.{lines-vectors}
 use Rattle.tables_spec.specs.Table.{tableEntries, kept, builtEntry}
-use Rattle.pruning_laws.specs.ShortSequences.{shortSequence}
-use Rattle.pruning_laws.specs.Witnesses.{firstBehind, serves, firstWitness}
+use Rattle.tables_laws.specs.ShortSequences.{shortSequence}
+use Rattle.tables_laws.specs.Witnesses.{firstBehind, serves, firstWitness}
 use Rattle.tables_spec.proofs.TableLaws.{entries-bound}
-use Rattle.pruning_laws.proofs.SequenceLoopLaws.{short-at}
-use Rattle.pruning_laws.proofs.WitnessLaws.{witness-searched}
-use Rattle.pruning_laws.proofs.EntryLaws.{built-found}
+use Rattle.tables_laws.proofs.SequenceLoopLaws.{short-at}
+use Rattle.tables_laws.proofs.WitnessLaws.{witness-searched}
+use Rattle.tables_laws.proofs.EntryLaws.{built-found}
 use Rattle.builder.proofs.entry_for.Statement.{statement}
 use Rattle.builder.proofs.entry_for.Tie as tie
 

@@ -7,7 +7,7 @@ use lib.ListN.{length, length-set}
 use borrow.Author.Needs.{needs}
 use Rattle.tables_spec.specs.Table.{tableEntries, builtEntry, builtTable}
 use Rattle.tables_spec.proofs.ReachLaws.{near-entries, near-built}
-use Rattle.pruning_laws.proofs.TableLoopLaws.{entered, entered-start, entered-more, entered-all}
+use Rattle.tables_laws.proofs.TableLoopLaws.{entered, entered-start, entered-more, entered-all}
 use Rattle.builder.proofs.write_entries.Statement.{statement}
 use Rattle.builder.proofs.write_entries.Tie as tie
 

@@ -1,4 +1,4 @@
--- `cases_search::run_lines` meets its contract. Each turn leaves less of the input, and the table its length.
+-- `cases_search::run_lines` meets its contract. Each turn leaves less of the input, and both buffers their lengths.
 -- Assumes nothing.
 use mathlib.Core.Path.{_≡_}
 use Prim.Native.Nat.{_-_}
@@ -8,10 +8,11 @@ use Rattle.cases_search.proofs.run_lines.Statement.{statement}
 use Rattle.cases_search.proofs.run_lines.Tie as tie
 
 abbrev Inv-loop : tie.InvT-loop
-Inv-loop input table₀ standing₀ from₀ table standing from = length table ≡ length table₀
+Inv-loop input table₀ plan₀ standing₀ from₀ table plan standing from =
+    (length table ≡ length table₀) × (length plan ≡ length plan₀)
 
 abbrev μ-loop : tie.MeasureT-loop
-μ-loop input table₀ standing₀ from₀ table standing from = length input - from
+μ-loop input table₀ plan₀ standing₀ from₀ table plan standing from = length input - from
 
 first-standing-requires : tie.Need-first-standing-requires Inv-loop μ-loop
 first-standing-requires c κs = search needs
@@ -58,6 +59,9 @@ loop-again c = search needs
 same-length : tie.Need-same-length Inv-loop μ-loop
 same-length c = search needs
 
+same-length-2 : tie.Need-same-length-2 Inv-loop μ-loop
+same-length-2 c = search needs
+
 returns : tie.Need-returns Inv-loop μ-loop
 returns c = search needs
 
@@ -82,4 +86,5 @@ run-lines-spec =
     loop-less
     loop-again
     same-length
+    same-length-2
     returns)

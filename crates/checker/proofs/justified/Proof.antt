@@ -17,8 +17,8 @@ use Rattle.macros_spec.specs.declared.Vectors.{Vectors}
 use Rattle.macros_spec.proofs.CoverLaws.{redundant-by-lines}
 use Rattle.macros_spec.proofs.ExtensionLaws.{lines-vectors}
 use Rattle.tables_spec.specs.Table.{tableEntries, sequenceAt, kept, entryAt, entryJustified}
-use Rattle.pruning_laws.proofs.Shapes.{rules-3}
-use Rattle.pruning_laws.proofs.SequenceLoopLaws.{short-at, part-three}
+use Rattle.tables_laws.proofs.Shapes.{rules-3}
+use Rattle.tables_laws.proofs.SequenceLoopLaws.{short-at, part-three}
 use Rattle.tables_spec.proofs.TableLaws.{index-sequence}
 use Rattle.checker.proofs.justified.Statement.{statement}
 use Rattle.checker.proofs.justified.Tie as tie

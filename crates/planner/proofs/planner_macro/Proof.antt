@@ -1,4 +1,4 @@
--- `planner::planner_macro` meets its contract, which is that of `text_macro::macro_of`.
+-- `planner::planner_macro` meets its contract, which is that of `text_macros::macro_of`.
 -- Assumes nothing.
 use borrow.Author.Needs.{needs}
 use Rattle.planner.proofs.planner_macro.Statement.{statement}

@@ -8,8 +8,8 @@ use borrow.Author.Needs.{needs}
 use Rattle.theory_spec.specs.Sequences.{Sequence, Numbered}
 use Rattle.model_spec.specs.Rules.{sequenceCost}
 use Rattle.macros_spec.specs.Composition.{composed, asVectors}
-use Rattle.pruning_laws.proofs.Shapes.{rules-3}
-use Rattle.pruning_laws.proofs.SequenceLoopLaws.{short-numbered, part-three}
+use Rattle.tables_laws.proofs.Shapes.{rules-3}
+use Rattle.tables_laws.proofs.SequenceLoopLaws.{short-numbered, part-three}
 use Rattle.sequences.proofs.profile_at.Statement.{statement}
 use Rattle.sequences.proofs.profile_at.Tie as tie
 

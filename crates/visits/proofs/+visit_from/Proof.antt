@@ -23,9 +23,9 @@ use Rattle.search_laws.proofs.PlanArrayLaws.{plan-more, noted-plan}
 use Rattle.search_laws.proofs.VisitLoopLaws.{goes-cheap, restFrom, visits-last, whole, whole-exceeded, loop-end}
 use Rattle.search_laws.proofs.VisitLoopLaws.{turn-taken, turn-left, plan-next, reached-next}
 use Rattle.lookup.proofs.first_place.Reads as first-place-reads
-use Rattle.steps.proofs.goes_on.Reads as goes-on-reads
-use Rattle.plans.proofs.noted.Reads as noted-reads
-use Rattle.steps.proofs.put_after.Reads as put-after-reads
+use Rattle.search_states.proofs.goes_on.Reads as goes-on-reads
+use Rattle.search_progress.proofs.noted.Reads as noted-reads
+use Rattle.search_states.proofs.put_after.Reads as put-after-reads
 use Rattle.visits.proofs.visit_from.Reads as visit-from
 use Rattle.visits.proofs.visit_from.Kinds as visit-from-kinds
 use Rattle.visits.proofs.+visit_from.Lts-visit_from as lts

@@ -1,0 +1,104 @@
+// What visiting a sequence makes of the search's progress: one step more, and the best plan so far.
+use bounded::smaller;
+use search_laws::Best;
+use search_laws::Progress;
+use search_spec::ANY_VALUE;
+ghost use mathlib.Core.Path.{_≡_};
+ghost use Prim.Native.Nat.{min};
+ghost use lib.ListN.{take};
+ghost use Rattle.search_spec.specs.Query.{meetsGoal};
+ghost use Rattle.search_laws.specs.Visits.{replaces, notedMoves};
+
+// Whether a state meets the first sixteen bytes of the goal: 255 in the goal asks for nothing.
+fn meets_goal(goal: &[u8], state: &[u8; 16]) -> bool
+    ensures { λ r. ⌜ r ≡ meetsGoal (take 16 (now (goal .entry))) (now (state .entry)) ⌝ }
+{
+    let held: &[u8] = state;
+    let end = smaller(goal.len(), 16);
+    let mut i: usize = 0;
+    while i < end {
+        if goal[i] != ANY_VALUE {
+            if held[i] != goal[i] {
+                return false;
+            }
+        }
+        i += 1;
+    }
+    true
+}
+
+// Whether a plan of that cost and length replaces the best so far: it is cheaper, or costs the same and is shorter.
+// Of equals the first one met stays.
+fn replaces(best: Best, cost: u16, length: u8) -> bool
+    ensures { λ r. ⌜ r ≡ replaces best cost length ⌝ }
+{
+    if !best.found {
+        return true;
+    }
+    if cost < best.cost {
+        return true;
+    }
+    if best.cost < cost {
+        return false;
+    }
+    length < best.length
+}
+
+// The lower of two costs.
+fn lower(a: u16, b: u16) -> u16
+    ensures { λ r. ⌜ r ≡ min a b ⌝ }
+{
+    if a < b { a } else { b }
+}
+
+// Visits one sequence: the first `depth` moves of the plan, which have led to the state at that cost. The limit is
+// compared before one is added. A plan that replaces the best is kept with its whole array.
+pub fn noted(
+    goal: &[u8],
+    step_limit: u32,
+    state: &[u8; 16],
+    plan: &[u8; 32],
+    depth: u8,
+    cost: u16,
+    progress: Progress,
+) -> Progress
+    ensures { λ r. ⌜
+        r
+        ≡ notedMoves (take 16 (now (goal .entry))) «step_limit» cost depth
+        (now (plan .entry)) (now (state .entry)) progress ⌝ }
+{
+    let best = progress.best;
+    if step_limit <= progress.steps {
+        let floor = lower(progress.floor, cost);
+        return Progress {
+            steps: progress.steps,
+            exceeded: true,
+            best,
+            floor,
+        };
+    }
+    let steps = progress.steps + 1;
+    if meets_goal(goal, state) {
+        if replaces(best, cost, depth) {
+            let moves = *plan;
+            let found = Best {
+                found: true,
+                cost,
+                length: depth,
+                moves,
+            };
+            return Progress {
+                steps,
+                exceeded: false,
+                best: found,
+                floor: progress.floor,
+            };
+        }
+    }
+    Progress {
+        steps,
+        exceeded: false,
+        best,
+        floor: progress.floor,
+    }
+}
