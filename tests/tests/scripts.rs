@@ -46,9 +46,6 @@ fn tables() {
 
 #[test]
 fn queries() {
-    let compared = all(concat!(
-        include_str!("../../crates/cases_search/stdin"),
-        include_str!("../../crates/cases_tally/stdin")
-    ));
+    let compared = all(include_str!("../../crates/cases_search/stdin"));
     assert!(compared > 700, "only {compared} calls");
 }
