@@ -1,8 +1,8 @@
--- Laws of S, the number of sequences of at most `reach` of m rules: it counts them, it is at most 30784, and it bounds their indices with one more rule and with one less.
+-- Laws of S, the number of sequences of at most `reach` of m rules: it counts them, it is at most 30784, and it bounds their indices with one more rule.
 -- Assumes nothing.
 use mathlib.Core.Path.{_≡_, refl, sym, ap, ap₂, _∙_}
-use Prim.Native.Nat.{ℕ, zero, suc, _+_, _*_, _/_, _^_, _≤_, _<_}
-use native.Mathlib.Nat.{suc-mul, mul-le-mul-right, div-lt-iff-lt-mul, pow-zero, pow-suc, pow-le-pow-left}
+use Prim.Native.Nat.{ℕ, zero, suc, _+_, _*_, _^_, _≤_, _<_}
+use native.Mathlib.Nat.{suc-mul, mul-le-mul-right, pow-zero, pow-suc, pow-le-pow-left}
 use native.Mathlib.Omega.{arith}
 use lib.ListN.{length, length-append, length-map}
 use Rattle.theory_spec.specs.Sequences.{level, sequences}
@@ -60,7 +60,3 @@ count-prefix m (suc (suc (suc n))) h k = absurd (omega arith)
 -- the index with one more rule, number k + 1, is one of the sequences of one more rule
 pub behind-bound : (m n i k : ℕ) → i < sequenceCount m n → k < m → i * m + (k + 1) < sequenceCount m (suc n)
 behind-bound m n i k h l = omega (arith, suc-mul i m, mul-le-mul-right m h, count-next m n)
-
--- the index without its last rule is one of the sequences of one rule less
-pub quotient-bound : (m n k : ℕ) → 1 ≤ m → k + 1 < sequenceCount m (suc n) → k / m < sequenceCount m n
-quotient-bound m n k h l = div-lt-iff-lt-mul {k = m} {x = k} {y = sequenceCount m n} h .1 (omega (arith, count-next m n))

@@ -2,30 +2,17 @@
 -- Assumes nothing.
 use mathlib.Core.Path.{_≡_, refl, sym, ap, _∙_, subst}
 use mathlib.Core.Logic.{_⊎_, inl, inr}
-use mathlib.Core.Bool.{Bool, true, false}
+use mathlib.Core.Bool.{true, false}
 use mathlib.Core.List.{List, [], _∷_, _++_, append-assoc, append-nil}
 use mathlib.Core.List.{List·Memᴰ·head, List·Memᴰ·tail, List·Memᴰ·not-nil, List·Memᴰ·append-cases, Memᴰ·append-right}
 use Prim.Native.Nat.{ℕ, zero, suc, _+_, _≤_, min}
 use native.Mathlib.Omega.{arith}
 use lib.ListN.{take}
-use Rattle.theory_spec.specs.Lists.{_∈_, any, keep, same, Pairwise}
+use Rattle.theory_spec.specs.Lists.{_∈_, same, Pairwise}
 use Rattle.theory_spec.specs.Sequences.{Sequence, costOf}
-use Rattle.theory_spec.specs.Recursion.{leastCost}
+use Rattle.theory_spec.specs.Recursion.{leastCost, initial, isIn, frontier}
 use Rattle.theory_spec.proofs.ListLaws.{here, in-keep, of-keep, any-true, true-any, same-true, same-refl, passes?, not-both}
 use Rattle.theory_spec.proofs.SequenceLaws.{cost-append}
-
--- without its last rule
-abbrev pub initial : Sequence → Sequence
-initial [] = []
-initial (r ∷ []) = []
-initial (r ∷ s ∷ q) = r ∷ initial (s ∷ q)
-
-abbrev pub isIn : List Sequence → Sequence → Bool
-isIn l q = any (same q) l
-
--- of a list of which the first ones are looked at, those others that extend one of these by a rule
-abbrev pub frontier : List Sequence → List Sequence → List Sequence
-frontier looked rest = keep (λ q. isIn looked (initial q)) rest
 
 initial-snoc : (x : Sequence) (r : ℕ) → initial (x ++ (r ∷ [])) ≡ x
 initial-snoc [] r = refl

@@ -5,7 +5,7 @@ use mathlib.Core.List.{List, [], _∷_, _++_}
 use Prim.Native.Nat.{ℕ, zero, suc, _-_, min}
 use lib.Dec.{leb, ltb, eqb}
 use lib.ListN.{length, drop}
-use Rattle.theory_spec.specs.Lists.{any, keep, flat, foldOver}
+use Rattle.theory_spec.specs.Lists.{any, keep, flat, foldOver, same}
 use Rattle.theory_spec.specs.Sequences.{Sequence, costOf, numbers}
 
 -- ── The visited sequences ────────────────────────────────────────────────────────────────────────
@@ -78,3 +78,19 @@ abbrev pub exploreWith : {A C : Type 0} → (ℕ → A → Option A) → ℕ →
 exploreWith step m may note zero q s c = note q s c
 exploreWith step m may note (suc n) q s c =
     foldOver (λ r c′. enterWith c′ (may (q ++ (r ∷ []))) (step r s) (λ t. exploreWith step m may note n (q ++ (r ∷ [])) t c′)) (note q s c) (numbers m)
+
+-- ── What lies beyond the limit ───────────────────────────────────────────────────────────────────
+
+-- without its last rule
+abbrev pub initial : Sequence → Sequence
+initial [] = []
+initial (r ∷ []) = []
+initial (r ∷ s ∷ q) = r ∷ initial (s ∷ q)
+
+-- the sequence is one of a list
+abbrev pub isIn : List Sequence → Sequence → Bool
+isIn l q = any (same q) l
+
+-- of a list of which the first ones are looked at, those others that extend one of these by a rule
+abbrev pub frontier : List Sequence → List Sequence → List Sequence
+frontier looked rest = keep (λ q. isIn looked (initial q)) rest
