@@ -2,8 +2,8 @@
 use buffers::fill_from;
 use model_spec::RuleSet;
 use sequences::profile_at;
+use table_sizes::shape_refusal;
 use tables::KEPT;
-use tables::shape_refusal;
 use validity::is_valid;
 use witnesses::smallest_witness;
 ghost use mathlib.Core.Path.{_≡_};

@@ -1,7 +1,7 @@
 // A rule file, laid over a buffer.
 use list_output::put_numbers;
 use model_spec::RuleSet;
-use output::put_number_line;
+use number_output::put_number_line;
 use output::put_word;
 use rule_output::put_rule;
 ghost use mathlib.Core.Path.{_≡_};

@@ -1,7 +1,7 @@
 // The comma lists of a rule file, each laid over a buffer from a place on.
 use bounded::smaller;
+use number_output::put_number;
 use output::put;
-use output::put_number;
 use separators::ending;
 ghost use Rattle.files_spec.specs.Text.{numeral};
 ghost use Rattle.files_spec.specs.File.{entryText};

@@ -1,6 +1,6 @@
 // The lines of a mark in a listing, laid over a buffer from a place on.
+use number_output::put_number;
 use output::put;
-use output::put_number;
 use output::put_word;
 use tables::KEPT;
 ghost use mathlib.Core.Path.{_≡_};

@@ -2,7 +2,7 @@
 use buffers::fill_from;
 use builder::build_table;
 use model_spec::RuleSet;
-use output::put_number_line;
+use number_output::put_number_line;
 use table_output::put_table;
 use tables::sequence_count;
 ghost use mathlib.Core.Path.{_≡_};

@@ -1,7 +1,7 @@
 // The lines of a rule in a rule file, laid over a buffer from a place on.
 use list_output::put_entries;
 use model_spec::Rule;
-use output::put_number_line;
+use number_output::put_number_line;
 use output::put_word;
 ghost use mathlib.Core.List.{_++_};
 ghost use Rattle.files_spec.specs.File.{entryText, ruleText};

@@ -1,6 +1,6 @@
 // The listing of a table, laid over a buffer.
 use mark_output::put_mark;
-use output::put_number_line;
+use number_output::put_number_line;
 use tables::KEPT;
 use tables::entry_at;
 ghost use mathlib.Core.Path.{_≡_};

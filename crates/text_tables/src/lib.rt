@@ -19,7 +19,7 @@ pub fn table_size(text: &[u8], reach: usize) -> TableSize
             length: 0,
         };
     }
-    tables::table_size(file.set, reach)
+    table_sizes::table_size(file.set, reach)
 }
 
 // Builds the table, or zeroes it.

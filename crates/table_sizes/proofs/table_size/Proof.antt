@@ -1,4 +1,4 @@
--- `tables::table_size` meets its contract: either way out has the definition's answer, which has its meaning.
+-- `table_sizes::table_size` meets its contract: either way out has the definition's answer, which has its meaning.
 -- Assumes nothing.
 use mathlib.Core.Path.{_≡_, sym, subst, _∙_}
 use Prim.Native.Nat.{ℕ}
@@ -11,8 +11,8 @@ use Rattle.model_spec.proofs.ValidityLaws.{valid-iff}
 use Rattle.tables_spec.specs.declared.TableSize.{TableSize}
 use Rattle.tables_spec.specs.Answers.{tableSize, SizeMeaning}
 use Rattle.tables_spec.proofs.SizeLaws.{size-meaning, size-refused, size-judged}
-use Rattle.tables.proofs.table_size.Statement.{statement}
-use Rattle.tables.proofs.table_size.Tie as tie
+use Rattle.table_sizes.proofs.table_size.Statement.{statement}
+use Rattle.table_sizes.proofs.table_size.Tie as tie
 
 -- the definition's answer has its meaning
 answers : (set : RuleSet) (reach : ℕ) (r : TableSize) → tableSize set reach ≡ r → (r ≡ tableSize set reach) × SizeMeaning set reach r

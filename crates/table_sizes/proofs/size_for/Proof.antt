@@ -1,4 +1,4 @@
--- `tables::size_for` meets its contract: each way out has the number of its cause.
+-- `table_sizes::size_for` meets its contract: each way out has the number of its cause.
 -- Assumes nothing.
 use mathlib.Core.Path.{_≡_, sym, ap, _∙_}
 use Prim.Native.Nat.{min, _*_}
@@ -8,8 +8,8 @@ use Rattle.tables_spec.specs.Table.{sequenceCount, tableEntries}
 use Rattle.tables_spec.specs.Answers.{sizeWith}
 use Rattle.tables_spec.proofs.CountLaws.{count-byte}
 use Rattle.tables_spec.proofs.SizeLaws.{reach-refused, reach-passed}
-use Rattle.tables.proofs.size_for.Statement.{statement}
-use Rattle.tables.proofs.size_for.Tie as tie
+use Rattle.table_sizes.proofs.size_for.Statement.{statement}
+use Rattle.table_sizes.proofs.size_for.Tie as tie
 
 returns : tie.Need-returns
 returns c = let s = c .before .args in sym (ap (sizeWith (s .set) (s .reach)) (reach-refused (s .set) (s .reach) (λ r. omega arith)))

@@ -1,10 +1,10 @@
--- `output::put_digits` meets its contract: one, two or three digits, laid one after the other.
+-- `number_output::put_digits` meets its contract: one, two or three digits, laid one after the other.
 -- Assumes nothing.
 use borrow.Author.Needs.{needs}
 use Rattle.files_spec.proofs.TextLaws.{numeral-one, numeral-two, numeral-three}
 use Rattle.output_laws.proofs.OverlayLaws.{laid-append}
-use Rattle.output.proofs.put_digits.Statement.{statement}
-use Rattle.output.proofs.put_digits.Tie as tie
+use Rattle.number_output.proofs.put_digits.Statement.{statement}
+use Rattle.number_output.proofs.put_digits.Tie as tie
 
 put-digit-requires : tie.Need-put-digit-requires
 put-digit-requires c κs = search needs

@@ -1,9 +1,9 @@
--- `output::put_number_line` meets its contract: the key, the number and the line feed, laid one after the other.
+-- `number_output::put_number_line` meets its contract: the key, the number and the line feed, laid one after the other.
 -- Assumes nothing.
 use borrow.Author.Needs.{needs}
 use Rattle.output_laws.proofs.OverlayLaws.{laid-append}
-use Rattle.output.proofs.put_number_line.Statement.{statement}
-use Rattle.output.proofs.put_number_line.Tie as tie
+use Rattle.number_output.proofs.put_number_line.Statement.{statement}
+use Rattle.number_output.proofs.put_number_line.Tie as tie
 
 put-word-requires : tie.Need-put-word-requires
 put-word-requires c κs = search needs

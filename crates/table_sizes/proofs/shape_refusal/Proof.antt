@@ -1,11 +1,11 @@
--- `tables::shape_refusal` meets its contract: a length that is refused is refused for the same cause, and a length that is told decides the rest.
+-- `table_sizes::shape_refusal` meets its contract: a length that is refused is refused for the same cause, and a length that is told decides the rest.
 -- Assumes nothing.
 use mathlib.Core.Path.{sym, ap, _∙_}
 use borrow.Author.Needs.{needs}
 use Rattle.tables_spec.specs.declared.TableSize.{TableSize}
 use Rattle.tables_spec.proofs.AnswerLaws.{shape-refused, shape-misfit, shape-fits}
-use Rattle.tables.proofs.shape_refusal.Statement.{statement}
-use Rattle.tables.proofs.shape_refusal.Tie as tie
+use Rattle.table_sizes.proofs.shape_refusal.Statement.{statement}
+use Rattle.table_sizes.proofs.shape_refusal.Tie as tie
 
 size-for-requires : tie.Need-size-for-requires
 size-for-requires c κs = search needs

@@ -1,8 +1,8 @@
--- `output::put_number` meets its contract: the number, or 999 where it is larger, has at most three digits.
+-- `number_output::put_number` meets its contract: the number, or 999 where it is larger, has at most three digits.
 -- Assumes nothing.
 use borrow.Author.Needs.{needs}
-use Rattle.output.proofs.put_number.Statement.{statement}
-use Rattle.output.proofs.put_number.Tie as tie
+use Rattle.number_output.proofs.put_number.Statement.{statement}
+use Rattle.number_output.proofs.put_number.Tie as tie
 
 smaller-requires : tie.Need-smaller-requires
 smaller-requires c κs = search needs
