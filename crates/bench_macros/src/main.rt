@@ -1,5 +1,5 @@
-// Composes a million two-rule macros of the rule file on standard input, pair after pair of its rules, and prints how many of them some state admits and two sums over the entries. Of a
-// refused file it prints the outcome alone.
+// Composes a million two-rule macros of the rule file on standard input, pair after pair of its rules, and prints how
+// many of them some state admits and two sums over the entries. Of a refused file it prints the outcome alone.
 // `bench/run` times it beside the same work in Rust.
 use composition::empty;
 use composition::extended;
@@ -10,7 +10,8 @@ use model_spec::RuleSet;
 use std::num::wrapping_add_u64;
 ghost use Prim.Native.Nat.{_<_};
 
-// What is counted of the macros: those that some state admits, the sum of their entries, and the sum of that sum after each entry, which tells the order.
+// What is counted of the macros: those that some state admits, the sum of their entries, and the sum of that sum
+// after each entry, which tells the order.
 struct Totals {
     admitted: u64,
     sum: u64,

@@ -1,7 +1,8 @@
-// Builds the table of a rule file, searches once with it, and prints the answer. Standard input is a line with four numbers and a space between each two: the reach, the bound on moves, the
-// bound on cost and the step limit; a line with the start and one with the goal, a number for each position and a comma between each two, 255 in the goal for any value; and then the file.
-// Of a refused file the program prints its outcome alone.
-// `bench/run` times it beside the same search in Rust.
+// Builds the table of a rule file, searches once with it, and prints the answer. Standard input is a line with four
+// numbers and a space between each two: the reach, the bound on moves, the bound on cost and the step limit; a line
+// with the start and one with the goal, a number for each position and a comma between each two, 255 in the goal for
+// any value; and then the file. Of a refused file the program prints its outcome alone. `bench/run` times it beside
+// the same search in Rust.
 use libc::STDIN_FILENO;
 use libc::STDOUT_FILENO;
 use model_spec::RuleSet;
@@ -10,7 +11,8 @@ use tables::sequence_count;
 ghost use Prim.Native.Nat.{_≤_};
 ghost use lib.ListN.{length};
 
-// A number at the start of a text, the byte that ends its digits (0 where the text does), and how many bytes it takes with that one.
+// A number at the start of a text, the byte that ends its digits (0 where the text does), and how many bytes it takes
+// with that one.
 struct Number {
     value: u64,
     end: u8,

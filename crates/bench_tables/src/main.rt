@@ -1,6 +1,6 @@
-// Builds the table of a rule file for reach 3, checks it, and prints what it holds. Standard input is a line with two numbers and a space between, how often to build and how often to
-// check, and then the file. Of a refused file the program prints the outcome alone.
-// `bench/run` times it beside the plain comparison of all macros in Rust.
+// Builds the table of a rule file for reach 3, checks it, and prints what it holds. Standard input is a line with two
+// numbers and a space between, how often to build and how often to check, and then the file. Of a refused file the
+// program prints the outcome alone. `bench/run` times it beside the plain comparison of all macros in Rust.
 use libc::STDIN_FILENO;
 use libc::STDOUT_FILENO;
 use model_spec::RuleSet;
@@ -17,7 +17,8 @@ struct Number {
     size: usize,
 }
 
-// What is counted of a table: its marks, the sum of its entries, and the sum of that sum after each entry, which tells the order.
+// What is counted of a table: its marks, the sum of its entries, and the sum of that sum after each entry, which
+// tells the order.
 struct Totals {
     marks: u64,
     sum: u64,

@@ -1,10 +1,12 @@
-// Runs reader and writer on the cases of standard input and prints what they give. A case is a line: a letter, a space and a text, in which `/` stands for a
-// line feed, `\r`, `\t` and `\0` for those bytes and `\h` for byte 178. Each line is printed again, cut at 120 bytes, with the answer after it. A line that begins with `#` is a heading.
+// Runs reader and writer on the cases of standard input and prints what they give. A case is a line: a letter, a
+// space and a text, in which `/` stands for a line feed, `\r`, `\t` and `\0` for those bytes and `\h` for byte 178.
+// Each line is printed again, cut at 120 bytes, with the answer after it. A line that begins with `#` is a heading.
 // - `r` read the text: the outcome, and of a refused text whether its set is empty, zero throughout
-// - `v` read the text and show the set: positions, sizes, number of rules, and of each rule its cost, condition and effect. Entries are bytes: 16 is `x1`, 17 `x2`
+// - `v` read the text and show the set: positions, sizes, number of rules, and of each rule its cost, condition and
+//   effect. Entries are bytes: 16 is `x1`, 17 `x2`
 // - `c` read every front part of the text, from the empty one to the whole: the outcomes, a digit each
-// - `w` read the text and write its set into five buffers: of no byte, one byte shorter than the text, as long, one byte longer, and of 65,536 bytes: outcome and length of each, and
-//   what the buffer then holds
+// - `w` read the text and write its set into five buffers: of no byte, one byte shorter than the text, as long, one
+//   byte longer, and of 65,536 bytes: outcome and length of each, and what the buffer then holds
 // - `s` read the text, spoil the set in each of some ways and write it: the outcomes, a digit each
 // The answers that `stdout` holds were written by hand from document 01.
 use bytes::scan::find;
@@ -163,7 +165,8 @@ fn print_content(buffer: &[u8], text: &[u8]) {
     print(b"other");
 }
 
-// Writes a set into a buffer of so many bytes, full of `z` before: outcome, length and what the buffer then holds. Nothing for more than 65,536 bytes.
+// Writes a set into a buffer of so many bytes, full of `z` before: outcome, length and what the buffer then holds.
+// Nothing for more than 65,536 bytes.
 fn print_written(set: RuleSet, text: &[u8], size: usize) {
     let mut space = [b'z'; 65536];
     if 65536 < size {

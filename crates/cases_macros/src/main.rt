@@ -1,8 +1,10 @@
-// Runs macros and redundancy on the cases of standard input and prints what they give. A case is a line: a letter, a space and a text. Each line is printed again, cut at 120 bytes, with
-// the answer after it. A line that begins with `#` is a heading. Moves are numbers with commas between; nothing stands for the empty sequence.
+// Runs macros and redundancy on the cases of standard input and prints what they give. A case is a line: a letter, a
+// space and a text. Each line is printed again, cut at 120 bytes, with the answer after it. A line that begins with
+// `#` is a heading. Moves are numbers with commas between; nothing stands for the empty sequence.
 // - `f` read the text, in which `/` stands for a line feed: the outcome. Its set is the one of the lines that follow
 // - `s` change the set's number of positions and its number of rules to these two: whether it is valid
-// - `m` the macro of these moves: the outcome, and condition, effect and cost in the notation of a rule file; of a refusal whether the macro is zeros throughout
+// - `m` the macro of these moves: the outcome, and condition, effect and cost in the notation of a rule file; of a
+//   refusal whether the macro is zeros throughout
 // - `w` whether the moves before ` by ` are redundant with those after it
 // The answers that `stdout` holds were written by hand from document 01 and from the source documents.
 use bytes::scan::find;

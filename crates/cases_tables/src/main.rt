@@ -1,17 +1,25 @@
-// Runs the builder and the check of pruning tables on the cases of standard input and prints what they give. A case is a line: a letter, a space and a text. Each line is printed again, cut at
-// 120 bytes, with the answer after it. A line that begins with `#` is a heading. A sequence is printed as its rule numbers with commas between, the empty one as nothing.
+// Runs the builder and the check of pruning tables on the cases of standard input and prints what they give. A case
+// is a line: a letter, a space and a text. Each line is printed again, cut at 120 bytes, with the answer after it. A
+// line that begins with `#` is a heading. A sequence is printed as its rule numbers with commas between, the empty
+// one as nothing.
 // - `f` read the text, in which `/` stands for a line feed: the outcome. Its set is the one of the lines that follow
 // - `s` change the set's number of positions and its number of rules to these two: whether it is valid
-// - `b` a reach and a size: fill that many bytes with 170 and build a table in them: the outcome, its marks in order, each as `2,1 for 1,2`, and how many entries are kept. Of more than 60 marks
-//   only the number is printed, and the sum over them of the index times one more than the witness. Of a refusal: whether the bytes are zeros throughout
-// - `c` a reach, a size and entries, as `6:7,16:12`: fill that many bytes with 255, put these values at these indices, and check that table: the outcome
-// - `k` a reach, a size and bytes, as `10:4,11:0`: put these values at these places of the table that stands, and check that many bytes of it: the outcome
+// - `b` a reach and a size: fill that many bytes with 170 and build a table in them: the outcome, its marks in order,
+//   each as `2,1 for 1,2`, and how many entries are kept. Of more than 60 marks only the number is printed, and the
+//   sum over them of the index times one more than the witness. Of a refusal: whether the bytes are zeros throughout
+// - `c` a reach, a size and entries, as `6:7,16:12`: fill that many bytes with 255, put these values at these
+//   indices, and check that table: the outcome
+// - `k` a reach, a size and bytes, as `10:4,11:0`: put these values at these places of the table that stands, and
+//   check that many bytes of it: the outcome
 // - `e` an index: its sequence, and whether the table that stands keeps it, or for which witness it is marked
-// A board of three by three cells has a position for each cell, row by row, that holds 0 for a blank (blanks are alike) or the number of a tile. Each of its 24 rules moves what is in one cell
-// into the cell beside it, where there is a blank, and leaves a blank. It has the name of source 000, by row, column and direction. In the order of their names: 1 11D, 2 11R, 3 12D, 4 12L,
-// 5 12R, 6 13D, 7 13L, 8 21D, 9 21R, 10 21U, 11 22D, 12 22L, 13 22R, 14 22U, 15 23D, 16 23L, 17 23U, 18 31R, 19 31U, 20 32L, 21 32R, 22 32U, 23 33L, 24 33U.
-// The answers that `stdout` holds were worked out from document 01 and the source documents by a script that runs every sequence in every state; where there are too many states (boards,
-// pancakes, 16 positions of 16 values), in states that tell its entries apart, or by hand. Those of the small tables, and the sums where there is a pattern, were worked out by hand as well.
+// A board of three by three cells has a position for each cell, row by row, that holds 0 for a blank (blanks are
+// alike) or the number of a tile. Each of its 24 rules moves what is in one cell into the cell beside it, where there
+// is a blank, and leaves a blank. It has the name of source 000, by row, column and direction. In the order of their
+// names: 1 11D, 2 11R, 3 12D, 4 12L, 5 12R, 6 13D, 7 13L, 8 21D, 9 21R, 10 21U, 11 22D, 12 22L, 13 22R, 14 22U, 15
+// 23D, 16 23L, 17 23U, 18 31R, 19 31U, 20 32L, 21 32R, 22 32U, 23 33L, 24 33U. The answers that `stdout` holds were
+// worked out from document 01 and the source documents by a script that runs every sequence in every state; where
+// there are too many states (boards, pancakes, 16 positions of 16 values), in states that tell its entries apart, or
+// by hand. Those of the small tables, and the sums where there is a pattern, were worked out by hand as well.
 use buffers::fill_from;
 use bytes::scan::find;
 use cases_buffers::put_byte;

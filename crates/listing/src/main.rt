@@ -8,8 +8,8 @@ ghost use lib.ListN.{length, take};
 ghost use Rattle.io.specs.Counts.{Counts};
 ghost use Rattle.report_spec.specs.Listing.{listing};
 
-// Puts the listing into a buffer that every listing fits: its length. Where the text is the front of an input, of 4,293 bytes or more, this is the listing of the whole input: what stands
-// beyond plays no part.
+// Puts the listing into a buffer that every listing fits: its length. Where the text is the front of an input, of
+// 4,293 bytes or more, this is the listing of the whole input: what stands beyond plays no part.
 fn listed(text: &[u8], out: &mut [u8]) -> usize
     requires { ⌜ 20859 ≤ length (now out) ⌝ }
     ensures { λ r. ⌜ Counts r (now (out .exit)) ⌝ }
@@ -24,7 +24,8 @@ fn skip_some() -> bool {
     io::read_full(STDIN_FILENO, &mut rest) == 65536
 }
 
-// Reads the rest of the input, so that whoever writes it can end. Nothing says that an input ends, so the loop counts its turns down, from a number that no run uses up.
+// Reads the rest of the input, so that whoever writes it can end. Nothing says that an input ends, so the loop counts
+// its turns down, from a number that no run uses up.
 fn skip_rest() {
     let mut turns = u64::MAX;
     while turns > 0 && skip_some() {
