@@ -2,7 +2,7 @@
 ghost use mathlib.Core.Path.{_≡_};
 ghost use Prim.Native.Nat.{_%_};
 ghost use lib.ListN.{set};
-ghost use Rattle.cases_laws.specs.Texts.{withEntry};
+ghost use Rattle.cases_laws.specs.how.Texts.{withEntry};
 
 // Puts a byte at a place of a buffer, if it has that place.
 pub fn put_byte(place: usize, value: usize, bytes: &mut [u8])

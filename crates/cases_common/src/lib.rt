@@ -5,7 +5,7 @@ ghost use mathlib.Core.List.{map};
 ghost use Prim.Native.Nat.{_≤_, min};
 ghost use lib.ListN.{length};
 ghost use lib.Seq.{paste};
-ghost use Rattle.cases_laws.specs.Texts.{lineFed, upTo, behind, withDigit, numberOf};
+ghost use Rattle.cases_laws.specs.how.Texts.{lineFed, upTo, behind, withDigit, numberOf};
 
 // The largest number.
 const LARGEST: usize = 18446744073709551615;

@@ -10,7 +10,7 @@ use lib.ListN.{length, getD, set, take, drop, length-map, length-drop, drop-of-l
 use lib.Seq.{take-all, take-length, drop-cons, paste, paste-suc}
 use Rattle.theory_spec.specs.Lists.{foldOver}
 use Rattle.bytes.specs.Bytes.{indexOf, slice}
-use Rattle.cases_laws.specs.Texts.{lineFed, behind, largest, withDigit, numberOf}
+use Rattle.cases_laws.specs.how.Texts.{lineFed, behind, largest, withDigit, numberOf}
 
 -- one byte more of a rule file
 pub decoded-more : (old input : List ℕ) (i : ℕ) (l : List ℕ) (x : ℕ) → i < length old → i < length input

@@ -8,8 +8,8 @@ use Rattle.theory_spec.specs.Lists.{numbersFrom}
 use Rattle.theory_spec.specs.Sequences.{costOf, sequences, depthFirst}
 use Rattle.theory_spec.specs.Pruning.{segments}
 use Rattle.theory_spec.specs.Plans.{cheapest}
-use Rattle.theory_spec.specs.Indices.{indexOf}
-use Rattle.theory_spec.specs.Recursion.{shortSuffixes, last}
+use Rattle.theory_spec.specs.how.Indices.{indexOf}
+use Rattle.theory_spec.specs.how.Recursion.{shortSuffixes, last}
 use Rattle.model_spec.specs.Refusals.{firstRefusal}
 use Rattle.files_spec.specs.Text.{bytes, numeral, line}
 use Rattle.tables_spec.specs.Table.{sequenceCount}

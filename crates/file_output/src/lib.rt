@@ -9,7 +9,7 @@ ghost use Prim.Native.Nat.{min};
 ghost use lib.ListN.{take};
 ghost use Rattle.theory_spec.specs.Lists.{flat};
 ghost use Rattle.files_spec.specs.File.{ruleText, render};
-ghost use Rattle.output_laws.specs.Overlay.{Laid};
+ghost use Rattle.output_laws.specs.how.Overlay.{Laid};
 
 // How many of the 31 places for rules are shown.
 fn rules_shown(count: u8) -> usize

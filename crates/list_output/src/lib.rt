@@ -5,7 +5,7 @@ use output::put;
 use separators::ending;
 ghost use Rattle.files_spec.specs.Text.{numeral};
 ghost use Rattle.files_spec.specs.File.{entryText};
-ghost use Rattle.output_laws.specs.Overlay.{Laid, listText};
+ghost use Rattle.output_laws.specs.how.Overlay.{Laid, listText};
 
 // Lays a number of one byte.
 fn put_byte(text: &mut [u8], at: usize, n: u8) -> usize

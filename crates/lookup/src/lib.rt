@@ -7,10 +7,10 @@ use tables::sequence_count;
 ghost use mathlib.Core.Path.{_≡_};
 ghost use Prim.Native.Nat.{_+_, _*_, _-_, _≤_, _<_, min};
 ghost use lib.ListN.{take, drop};
-ghost use Rattle.theory_spec.specs.Indices.{indexOf, sequenceOf};
-ghost use Rattle.theory_spec.specs.Recursion.{last};
+ghost use Rattle.theory_spec.specs.how.Indices.{indexOf, sequenceOf};
+ghost use Rattle.theory_spec.specs.how.Recursion.{last};
 ghost use Rattle.tables_spec.specs.Table.{sequenceCount};
-ghost use Rattle.search_laws.specs.Lookup.{LooksUp};
+ghost use Rattle.search_laws.specs.how.Lookup.{LooksUp};
 
 // The index of a sequence of one to three rules without its first rule.
 fn tail_index(count: usize, index: usize) -> usize

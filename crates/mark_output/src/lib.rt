@@ -7,8 +7,8 @@ ghost use mathlib.Core.Path.{_≡_};
 ghost use mathlib.Core.List.{[], _∷_, _++_};
 ghost use Prim.Native.Nat.{max};
 ghost use Rattle.files_spec.specs.Text.{lineFeed};
-ghost use Rattle.output_laws.specs.Overlay.{Laid};
-ghost use Rattle.report_laws.specs.Marks.{sequenceText, entryLines};
+ghost use Rattle.output_laws.specs.how.Overlay.{Laid};
+ghost use Rattle.report_laws.specs.how.Marks.{sequenceText, entryLines};
 
 // The number of rules, or 1 where there is none.
 fn some_rules(count: u8) -> usize

@@ -7,7 +7,7 @@ use native.Mathlib.Numerals.{add-one}
 use native.Mathlib.Omega.{arith}
 use lib.ListN.{length, take, set, replicate, length-set}
 use lib.Seq.{take-all, take-suc-set, append-snoc}
-use Rattle.model_spec.specs.Buffers.{filledFrom}
+use Rattle.model_spec.specs.how.Buffers.{filledFrom}
 
 module _ (byte : ℕ) (buffer : List ℕ) where
   -- one place more

@@ -2,4 +2,4 @@ pub mod States
 pub mod Rules
 pub mod Validity
 pub mod Refusals
-pub mod Buffers
+pub mod how

@@ -5,7 +5,7 @@ use output::put_word;
 ghost use mathlib.Core.List.{[], _∷_, _++_};
 ghost use Prim.Native.Nat.{_≤_, _<_};
 ghost use Rattle.files_spec.specs.Text.{lineFeed, digit, numeral};
-ghost use Rattle.output_laws.specs.Overlay.{Laid, shownNumeral};
+ghost use Rattle.output_laws.specs.how.Overlay.{Laid, shownNumeral};
 
 // Lays a digit.
 fn put_digit(text: &mut [u8], at: usize, n: usize) -> usize

@@ -2,7 +2,7 @@
 // largest of the machine's numbers.
 ghost use mathlib.Core.Path.{_≡_};
 ghost use mathlib.Core.List.{[], _∷_};
-ghost use Rattle.output_laws.specs.Overlay.{placeAfter, Laid};
+ghost use Rattle.output_laws.specs.how.Overlay.{placeAfter, Laid};
 
 // The place after a byte.
 fn following(at: usize) -> usize

@@ -9,9 +9,9 @@ use native.Mathlib.Omega.{arith}
 use lib.ListN.{length, take, drop, set, replicate, length-append, length-set}
 use lib.Seq.{sets, sets-eq, set-out, take-at}
 use Rattle.theory_spec.specs.Lists.{padded}
-use Rattle.model_spec.specs.Buffers.{filledFrom}
+use Rattle.model_spec.specs.how.Buffers.{filledFrom}
 use Rattle.files_spec.specs.Text.{numeral}
-use Rattle.output_laws.specs.Overlay.{lastPlace, placeAfter, overlaid, Laid, shownNumeral}
+use Rattle.output_laws.specs.how.Overlay.{lastPlace, placeAfter, overlaid, Laid, shownNumeral}
 
 -- ── Places and numbers ───────────────────────────────────────────────────────────────────────────
 

@@ -13,7 +13,7 @@ use lib.Seq.{length-take-le, take-all, append-snoc, slice, slice-cons, length-sl
 use Rattle.theory_spec.proofs.TestLaws.{below?}
 use Rattle.files_spec.specs.Text.{bytes, lineFeed, commaList, line}
 use Rattle.files_spec.specs.Reading.{endingOf}
-use Rattle.output_laws.specs.Overlay.{Laid, listText}
+use Rattle.output_laws.specs.how.Overlay.{Laid, listText}
 use Rattle.files_spec.proofs.TextLaws.{ended, ended-commas}
 use Rattle.output_laws.proofs.OverlayLaws.{laid-append, Remains, remains-rest}
 

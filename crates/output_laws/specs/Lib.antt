@@ -1,1 +1,1 @@
-pub mod Overlay
+pub mod how

@@ -9,8 +9,8 @@ ghost use mathlib.Core.Path.{_≡_};
 ghost use Prim.Native.Nat.{min};
 ghost use lib.ListN.{drop, set};
 ghost use Rattle.files_spec.specs.Reading.{variable, constant, entry};
-ghost use Rattle.reader_laws.specs.Found.{found};
-ghost use Rattle.reader_laws.specs.Parts.{conditionEntry, effectEntry};
+ghost use Rattle.reader_laws.specs.how.Found.{found};
+ghost use Rattle.reader_laws.specs.how.Parts.{conditionEntry, effectEntry};
 
 // A variable: the number of one of the positions, after the letter.
 fn variable(text: &[u8], at: usize, positions: u8, ending: u8) -> Found

@@ -11,7 +11,7 @@ ghost use mathlib.Core.Path.{_≡_};
 ghost use Prim.Native.Nat.{_≤_};
 ghost use lib.ListN.{drop};
 ghost use Rattle.files_spec.specs.Reading.{ruleList, fileLines};
-ghost use Rattle.reader_laws.specs.Found.{found};
+ghost use Rattle.reader_laws.specs.how.Found.{found};
 
 // A refusal in the place of the file.
 fn no_set(outcome: u8) -> FoundSet

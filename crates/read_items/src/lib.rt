@@ -5,7 +5,7 @@ ghost use mathlib.Core.Path.{_≡_};
 ghost use Prim.Native.Nat.{_≤_};
 ghost use lib.ListN.{length, drop};
 ghost use Rattle.files_spec.specs.Reading.{literal, isDigit, digits, isNumber, decimal, number, numberWithin};
-ghost use Rattle.reader_laws.specs.Found.{found};
+ghost use Rattle.reader_laws.specs.how.Found.{found};
 
 // A refusal in the place of a number.
 fn no_number(outcome: u8) -> FoundNumber

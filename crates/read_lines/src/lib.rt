@@ -9,8 +9,8 @@ ghost use mathlib.Core.Path.{_≡_};
 ghost use Prim.Native.Nat.{min};
 ghost use lib.ListN.{drop};
 ghost use Rattle.files_spec.specs.Reading.{sizeItem, listLine};
-ghost use Rattle.reader_laws.specs.Found.{found};
-ghost use Rattle.reader_laws.specs.Parts.{keyedNumber};
+ghost use Rattle.reader_laws.specs.how.Found.{found};
+ghost use Rattle.reader_laws.specs.how.Parts.{keyedNumber};
 
 // A line with a key and one number.
 pub fn number_line(text: &[u8], at: usize, key: &[u8], least: u8, most: u8) -> Found

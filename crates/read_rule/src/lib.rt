@@ -13,7 +13,7 @@ ghost use mathlib.Core.Path.{_≡_};
 ghost use Prim.Native.Nat.{_≤_, min};
 ghost use lib.ListN.{drop};
 ghost use Rattle.files_spec.specs.Reading.{conditionItem, effectItem, listLine, ruleLines};
-ghost use Rattle.reader_laws.specs.Found.{found};
+ghost use Rattle.reader_laws.specs.how.Found.{found};
 
 // A refusal in the place of a rule.
 fn no_rule(outcome: u8) -> FoundRule

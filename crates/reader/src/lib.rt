@@ -6,7 +6,7 @@ use reader_laws::FoundSet;
 ghost use mathlib.Core.Path.{_≡_};
 ghost use Rattle.files_spec.specs.Reading.{fileLines, reading};
 ghost use Rattle.files_spec.specs.Meaning.{ReadMeaning};
-ghost use Rattle.reader_laws.specs.Found.{found};
+ghost use Rattle.reader_laws.specs.how.Found.{found};
 
 // The outcome of a text, by what reading its lines gave: a line's fault, then bytes left over, then duplicates.
 fn outcome_of(text: &[u8], file: FoundSet) -> u8

@@ -9,7 +9,7 @@ use lib.Dec.{eqb}
 use lib.ListN.{drop}
 use borrow.Author.Tests.{eq-eqb, ne-eqb}
 use Rattle.files_spec.specs.Reading.{Parsed, refused, parsed, andRead, refusedUnless}
-use Rattle.reader_laws.specs.Found.{found}
+use Rattle.reader_laws.specs.how.Found.{found}
 use Rattle.files_spec.proofs.ParserLaws.{of-parsed, if-read, then-back, unless-read, unless-back, refused-first, failed-test}
 
 -- with an outcome it is that refusal, whatever value and place stand beside it

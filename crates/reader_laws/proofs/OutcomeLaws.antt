@@ -13,7 +13,7 @@ use Rattle.model_spec.specs.Rules.{emptySet}
 use Rattle.model_spec.specs.Validity.{hasDuplicates, valid}
 use Rattle.model_spec.specs.declared.RuleSet.{RuleSet}
 use Rattle.files_spec.specs.Reading.{parsed, fileLines, reading}
-use Rattle.reader_laws.specs.Found.{found}
+use Rattle.reader_laws.specs.how.Found.{found}
 use Rattle.files_spec.proofs.FileLaws.{file-read}
 use Rattle.files_spec.proofs.ReadingLaws.{line-refused, left-over, at-end, Ends, inLine, tooLong, duplicated, accepted, reading-ends}
 use Rattle.files_spec.proofs.LineFaultLaws.{lines-limits}

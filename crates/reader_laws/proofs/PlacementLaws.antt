@@ -27,8 +27,8 @@ use Rattle.files_spec.specs.Reading.{
   conditionItem,
   effectItem,
 }
-use Rattle.reader_laws.specs.Found.{found}
-use Rattle.reader_laws.specs.Parts.{conditionEntry, effectEntry}
+use Rattle.reader_laws.specs.how.Found.{found}
+use Rattle.reader_laws.specs.how.Parts.{conditionEntry, effectEntry}
 use Rattle.reader_laws.proofs.FoundLaws.{found-refused, found-parsed, unless-failed, unless-passed, unless-refused}
 
 -- a place up to i is looked at in the first i + 1 places

@@ -10,7 +10,7 @@ use lib.ListN.{length, getD, take, drop, set, replicate, length-set, length-repl
 use lib.Seq.{getD-set-other, take-suc-set}
 use Rattle.theory_spec.specs.Lists.{padded}
 use Rattle.files_spec.specs.Reading.{Parsed, parsed, andRead, Item, endingOf, itemsAfter, ruleLines, rulesAfter}
-use Rattle.reader_laws.specs.Found.{found}
+use Rattle.reader_laws.specs.how.Found.{found}
 use Rattle.files_spec.proofs.PaddedLaws.{padded-iff}
 use Rattle.reader_laws.proofs.FoundLaws.{found-refused, found-parsed, parsed-found}
 

@@ -13,7 +13,7 @@ ghost use lib.Dec.{eqb};
 ghost use lib.ListN.{length};
 ghost use Rattle.model_spec.specs.Validity.{Valid};
 ghost use Rattle.files_spec.specs.Text.{numeral, line};
-ghost use Rattle.output_laws.specs.Overlay.{Laid};
+ghost use Rattle.output_laws.specs.how.Overlay.{Laid};
 ghost use Rattle.tables_spec.specs.Table.{tableEntries};
 ghost use Rattle.report_spec.specs.Listing.{listingOf};
 ghost use Rattle.report_spec.specs.Report.{reportLength, reported, ReportMeaning};

@@ -11,7 +11,7 @@ use Rattle.theory_spec.specs.Lists.{keep, flat, numbersFrom}
 use Rattle.model_spec.proofs.LoopLaws.{left-more, left-none}
 use Rattle.files_spec.specs.Text.{bytes, lineFeed}
 use Rattle.tables_spec.specs.Table.{kept, entryAt}
-use Rattle.report_laws.specs.Marks.{marks, tableMarks, sequenceText, markText, entryLines, marksText}
+use Rattle.report_laws.specs.how.Marks.{marks, tableMarks, sequenceText, markText, entryLines, marksText}
 
 -- ── One entry ────────────────────────────────────────────────────────────────────────────────────
 

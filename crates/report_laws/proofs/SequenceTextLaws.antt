@@ -7,14 +7,14 @@ use Prim.Native.Nat.{ℕ, zero, suc, _+_, _-_, _/_, _%_, _≤_, _<_, max}
 use native.Mathlib.Nat.{div-eq-of-lt, mod-eq-of-lt, mod-lt, div-lt-iff-lt-mul}
 use native.Mathlib.Numerals.{add-one}
 use native.Mathlib.Omega.{arith}
-use Rattle.theory_spec.specs.Indices.{sequenceOf}
+use Rattle.theory_spec.specs.how.Indices.{sequenceOf}
 use Rattle.theory_spec.proofs.IndexLaws.{sequence-at}
 use Rattle.model_spec.specs.declared.RuleSet.{RuleSet}
 use Rattle.files_spec.specs.Text.{comma, numeral, commaList}
 use Rattle.tables_spec.specs.Table.{tableEntries, sequenceAt}
 use Rattle.tables_spec.proofs.CountLaws.{count-sequences}
 use Rattle.report_spec.specs.Listing.{sequenceItems}
-use Rattle.report_laws.specs.Marks.{sequenceText}
+use Rattle.report_laws.specs.how.Marks.{sequenceText}
 
 -- index 0
 pub text-none : (m i : ℕ) → i < 1 → sequenceText m i ≡ []

@@ -17,7 +17,7 @@ use Rattle.tables_spec.specs.Table.{tableEntries, kept, entryAt, builtEntry, bu
 use Rattle.tables_spec.proofs.TableLaws.{built-entry, built-length, built-least}
 use Rattle.output_laws.proofs.OverlayLaws.{shown-number}
 use Rattle.report_spec.specs.Listing.{markedIndices, markLines, listingOf}
-use Rattle.report_laws.specs.Marks.{marks, tableMarks, markText, entryLines, marksText, tableText}
+use Rattle.report_laws.specs.how.Marks.{marks, tableMarks, markText, entryLines, marksText, tableText}
 use Rattle.report_spec.proofs.ListLaws.{keep-same, flat-keep}
 use Rattle.report_laws.proofs.SequenceTextLaws.{text-at}
 

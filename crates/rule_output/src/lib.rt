@@ -5,7 +5,7 @@ use number_output::put_number_line;
 use output::put_word;
 ghost use mathlib.Core.List.{_++_};
 ghost use Rattle.files_spec.specs.File.{entryText, ruleText};
-ghost use Rattle.output_laws.specs.Overlay.{Laid, listText};
+ghost use Rattle.output_laws.specs.how.Overlay.{Laid, listText};
 
 // Lays a line with a key and so many of the entries.
 fn put_entries_line(text: &mut [u8], at: usize, key: &[u8], entries: &[u8], count: usize) -> usize

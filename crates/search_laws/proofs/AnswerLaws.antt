@@ -22,7 +22,7 @@ use Rattle.search_spec.specs.declared.Answer.{Answer}
 use Rattle.search_spec.proofs.Demand.{cheapest-leads}
 use Rattle.search_spec.proofs.MeaningLaws.{unrefused-iff, search-meaning}
 use Rattle.search_spec.proofs.OutcomeLaws.{withoutPlan, searched-limited, searched-unsolvable, searched-solved}
-use Rattle.search_laws.specs.Visits.{bestOf, noBest, asBest, Explored}
+use Rattle.search_laws.specs.how.Visits.{bestOf, noBest, asBest, Explored}
 use Rattle.model_spec.proofs.CopyLaws.{copied-padded}
 use Rattle.search_laws.specs.declared.Best.{Best}
 use Rattle.search_laws.specs.declared.Progress.{Progress}

@@ -13,9 +13,9 @@ use lib.Seq.{take-all}
 use borrow.Author.Tests.{le-leb}
 use Rattle.theory_spec.specs.Lists.{onlyIf, foldOver, padded}
 use Rattle.theory_spec.specs.Sequences.{Sequence, run, costOf, Numbered}
-use Rattle.theory_spec.specs.Indices.{indexOf}
+use Rattle.theory_spec.specs.how.Indices.{indexOf}
 use Rattle.theory_spec.specs.Plans.{endsIn, reaches}
-use Rattle.theory_spec.specs.Recursion.{explore, exploreWith, last, allowedNext, best}
+use Rattle.theory_spec.specs.how.Recursion.{explore, exploreWith, last, allowedNext, best}
 use Rattle.theory_spec.proofs.ListLaws.{and-join, never-true}
 use Rattle.theory_spec.proofs.VisitLaws.{explore-same, visited-explore-next, explore-fold}
 use Rattle.theory_spec.proofs.PlanLaws.{best-cheapest}
@@ -31,8 +31,8 @@ use Rattle.search_spec.specs.Searched.{queryCauses, NotRefused, WellPosed, chea
 use Rattle.search_spec.proofs.VisitedLaws.{start-fits-iff}
 use Rattle.search_spec.proofs.PlanVisited.{start-state}
 use Rattle.search_spec.proofs.MeaningLaws.{not-refused-iff, unrefused-iff}
-use Rattle.search_laws.specs.Lookup.{LooksUp}
-use Rattle.search_laws.specs.Visits.{lentStep, lentCost, mayGoOn, noted, noProgress, visitsFrom, asBest, Explored}
+use Rattle.search_laws.specs.how.Lookup.{LooksUp}
+use Rattle.search_laws.specs.how.Visits.{lentStep, lentCost, mayGoOn, noted, noProgress, visitsFrom, asBest, Explored}
 use Rattle.search_laws.specs.declared.Limits.{Limits}
 use Rattle.search_laws.specs.declared.Progress.{Progress}
 use Rattle.search_laws.proofs.LookupLaws.{look-up-marks}

@@ -22,7 +22,7 @@ use Rattle.search_spec.proofs.VisitedLaws.{start-fits-iff}
 use Rattle.search_spec.proofs.Demand.{blank-buffer}
 use Rattle.search_spec.proofs.PlanVisited.{start-state}
 use Rattle.search_spec.proofs.MeaningLaws.{not-refused-iff}
-use Rattle.search_laws.specs.Visits.{EndsAt, Lent, Reached}
+use Rattle.search_laws.specs.how.Visits.{EndsAt, Lent, Reached}
 use Rattle.search_laws.specs.declared.Limits.{Limits}
 
 module _ (set : RuleSet) (v : WellFormed set) where

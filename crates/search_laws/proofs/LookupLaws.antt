@@ -15,8 +15,8 @@ use lib.Seq.{drop-append-le, drop-nil, drop-length, take-all, take-suc, getD-set
 use borrow.Author.Tests.{le-leb, lt-leb, lt-ltb, le-ltb}
 use Rattle.theory_spec.specs.Lists.{any, keepIf}
 use Rattle.theory_spec.specs.Sequences.{Sequence, Numbered, sequences}
-use Rattle.theory_spec.specs.Indices.{indexOf, sequenceOf}
-use Rattle.theory_spec.specs.Recursion.{last, suffixes, shortSuffixes}
+use Rattle.theory_spec.specs.how.Indices.{indexOf, sequenceOf}
+use Rattle.theory_spec.specs.how.Recursion.{last, suffixes, shortSuffixes}
 use Rattle.theory_spec.proofs.ListLaws.{zeros-at, in-getD}
 use Rattle.theory_spec.proofs.TestLaws.{below?}
 use Rattle.theory_spec.proofs.SequenceLaws.{numbered-right, of-sequences}
@@ -25,7 +25,7 @@ use Rattle.model_spec.specs.declared.RuleSet.{RuleSet}
 use Rattle.tables_spec.specs.Table.{sequenceCount, tableEntries, kept, entryAt, marked}
 use Rattle.tables_spec.proofs.CountLaws.{count-sequences, count-next}
 use Rattle.tables_spec.proofs.TableLaws.{mark-index}
-use Rattle.search_laws.specs.Lookup.{markedAt, suffixMarked, LooksUp}
+use Rattle.search_laws.specs.how.Lookup.{markedAt, suffixMarked, LooksUp}
 
 -- ── The last rules ───────────────────────────────────────────────────────────────────────────────
 

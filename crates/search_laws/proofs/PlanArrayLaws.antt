@@ -11,7 +11,7 @@ use Rattle.theory_spec.proofs.ListLaws.{padded-length}
 use Rattle.model_spec.specs.States.{State}
 use Rattle.search_spec.specs.Searched.{noMove}
 use Rattle.search_laws.specs.declared.Progress.{Progress}
-use Rattle.search_laws.specs.Visits.{notedMoves, noted}
+use Rattle.search_laws.specs.how.Visits.{notedMoves, noted}
 
 module _ {A : Type 0} (size : ℕ) (x : A) (plan : List A) (n : ℕ) (rest : plan ≡ padded size x (take n plan)) where
   -- the sequence so far has n moves

@@ -13,11 +13,11 @@ use lib.ListN.{length, take, drop}
 use borrow.Author.Tests.{ltb-true, ltb-false, lt-ltb, le-ltb}
 use Rattle.theory_spec.specs.Lists.{foldOver}
 use Rattle.theory_spec.specs.Sequences.{Sequence, costOf}
-use Rattle.theory_spec.specs.Recursion.{better, improved, bestAfter, best, leastCost}
+use Rattle.theory_spec.specs.how.Recursion.{better, improved, bestAfter, best, leastCost}
 use Rattle.theory_spec.proofs.FloorLaws.{least-min}
 use Rattle.model_spec.specs.States.{State}
 use Rattle.search_spec.specs.Query.{meetsGoal}
-use Rattle.search_laws.specs.Visits.{replaces, bestOf, noBest, bestAt, notedMoves, noted, noProgress, asBest}
+use Rattle.search_laws.specs.how.Visits.{replaces, bestOf, noBest, bestAt, notedMoves, noted, noProgress, asBest}
 use Rattle.search_laws.specs.declared.Best.{Best}
 use Rattle.search_laws.specs.declared.Progress.{Progress}
 

@@ -14,7 +14,7 @@ use Rattle.theory_spec.specs.Lists.{same}
 use Rattle.theory_spec.proofs.ListLaws.{same-refl}
 use Rattle.model_spec.specs.States.{valueOf, valuesOf, applicable, successor}
 use Rattle.model_spec.proofs.StateLaws.{value-constant, successor-at, successor-length}
-use Rattle.search_laws.specs.Visits.{meetsWithin, laidOver, ZerosFrom, EndsAt}
+use Rattle.search_laws.specs.how.Visits.{meetsWithin, laidOver, ZerosFrom, EndsAt}
 
 module _ (f : ℕ → ℕ) (z : f 0 ≡ 0) where
   -- beyond the positions one list, mapped by f, is the other

@@ -14,8 +14,8 @@ use lib.Seq.{take-at}
 use borrow.Author.Tests.{leb-true, le-ltb, ltb-false}
 use Rattle.theory_spec.specs.Lists.{foldOver, numbersFrom, onlyIf, padded}
 use Rattle.theory_spec.specs.Sequences.{Sequence, costOf}
-use Rattle.theory_spec.specs.Indices.{indexOf}
-use Rattle.theory_spec.specs.Recursion.{last, enterWith}
+use Rattle.theory_spec.specs.how.Indices.{indexOf}
+use Rattle.theory_spec.specs.how.Recursion.{last, enterWith}
 use Rattle.theory_spec.proofs.ListLaws.{and-split, not-both}
 use Rattle.theory_spec.proofs.SequenceLaws.{cost-append, numbered-append}
 use Rattle.model_spec.specs.States.{State, applicable, successor}
@@ -23,8 +23,8 @@ use Rattle.model_spec.proofs.LoopLaws.{rules-left}
 use Rattle.search_spec.specs.Searched.{noMove}
 use Rattle.search_laws.specs.declared.Progress.{Progress}
 use Rattle.search_laws.specs.declared.Limits.{Limits}
-use Rattle.search_laws.specs.Visits.{lentStep, lentCost, mayGoOn, bestAt, notedMoves, noted, visitsFrom}
-use Rattle.search_laws.specs.Visits.{meetsWithin, laidOver, EndsAt, Lent, Reached}
+use Rattle.search_laws.specs.how.Visits.{lentStep, lentCost, mayGoOn, bestAt, notedMoves, noted, visitsFrom}
+use Rattle.search_laws.specs.how.Visits.{meetsWithin, laidOver, EndsAt, Lent, Reached}
 use Rattle.search_laws.proofs.StateLoopLaws.{goes-within, successor-ends, led-within}
 use Rattle.search_laws.proofs.PlanArrayLaws.{plan-moves}
 use Rattle.search_laws.proofs.LookupLaws.{last-place}

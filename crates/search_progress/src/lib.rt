@@ -7,7 +7,7 @@ ghost use mathlib.Core.Path.{_≡_};
 ghost use Prim.Native.Nat.{min};
 ghost use lib.ListN.{take};
 ghost use Rattle.search_spec.specs.Query.{meetsGoal};
-ghost use Rattle.search_laws.specs.Visits.{replaces, notedMoves};
+ghost use Rattle.search_laws.specs.how.Visits.{replaces, notedMoves};
 
 // Whether a state meets the first sixteen bytes of the goal: 255 in the goal asks for nothing.
 fn meets_goal(goal: &[u8], state: &[u8; 16]) -> bool

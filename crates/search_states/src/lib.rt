@@ -8,7 +8,7 @@ ghost use lib.Dec.{leb, eqb};
 ghost use lib.ListN.{take};
 ghost use Rattle.theory_spec.specs.Lists.{padded};
 ghost use Rattle.model_spec.specs.States.{successor};
-ghost use Rattle.search_laws.specs.Visits.{meetsWithin, laidOver};
+ghost use Rattle.search_laws.specs.how.Visits.{meetsWithin, laidOver};
 
 // The state of a start: 0 beyond its bytes.
 pub fn start_state(start: &[u8]) -> [u8; 16]

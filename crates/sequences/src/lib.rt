@@ -10,7 +10,7 @@ ghost use lib.ListN.{length, drop};
 ghost use Rattle.theory_spec.specs.Sequences.{Numbered};
 ghost use Rattle.model_spec.specs.Rules.{sequenceCost};
 ghost use Rattle.macros_spec.specs.Composition.{composed, asVectors};
-ghost use Rattle.tables_laws.specs.ShortSequences.{shortSequence};
+ghost use Rattle.tables_laws.specs.how.ShortSequences.{shortSequence};
 
 // A number of rules as a valid set may have it, from 1 to 31: the nearest one.
 fn rule_count(count: u8) -> u8

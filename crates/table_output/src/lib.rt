@@ -5,8 +5,8 @@ use tables::KEPT;
 use tables::entry_at;
 ghost use mathlib.Core.Path.{_≡_};
 ghost use lib.ListN.{length};
-ghost use Rattle.output_laws.specs.Overlay.{Laid};
-ghost use Rattle.report_laws.specs.Marks.{tableMarks, marksText, tableText};
+ghost use Rattle.output_laws.specs.how.Overlay.{Laid};
+ghost use Rattle.report_laws.specs.how.Marks.{tableMarks, marksText, tableText};
 
 // How many sequences a table marks.
 fn count_marks(table: &[u8]) -> usize

@@ -11,7 +11,7 @@ use lib.ListN.{length, getD, take}
 use borrow.Author.Tests.{eq-eqb, ne-eqb}
 use Rattle.theory_spec.specs.Lists.{_∈_, numbersFrom}
 use Rattle.theory_spec.specs.Sequences.{Sequence, Numbered, sequences}
-use Rattle.theory_spec.specs.Indices.{indexOf, levelStart}
+use Rattle.theory_spec.specs.how.Indices.{indexOf, levelStart}
 use Rattle.theory_spec.proofs.ListLaws.{here}
 use Rattle.theory_spec.proofs.SequenceLaws.{of-sequences}
 use Rattle.theory_spec.proofs.IndexLaws.{sequences-all}
@@ -25,7 +25,7 @@ use Rattle.macros_spec.proofs.CoverLaws.{numbered-passes, redundant-by-lines}
 use Rattle.tables_spec.specs.Table.{tableEntries, sequenceAt, kept, firstIndex, builtEntry}
 use Rattle.tables_spec.proofs.CountLaws.{count-sequences}
 use Rattle.tables_spec.proofs.TableLaws.{index-sequence}
-use Rattle.tables_laws.specs.Witnesses.{firstBehind, serves}
+use Rattle.tables_laws.specs.how.Witnesses.{firstBehind, serves}
 
 -- ── The first index that passes ──────────────────────────────────────────────────────────────────
 

@@ -10,7 +10,7 @@ use native.Mathlib.Omega.{arith}
 use lib.ListN.{length, set, take, drop, length-append, length-drop}
 use lib.Seq.{length-take-le, take-all, append-snoc, set-split, drop-at}
 use Rattle.theory_spec.specs.Sequences.{Sequence, Numbered}
-use Rattle.theory_spec.specs.Indices.{sequenceOf}
+use Rattle.theory_spec.specs.how.Indices.{sequenceOf}
 use Rattle.theory_spec.proofs.SequenceLaws.{numbered-append}
 use Rattle.theory_spec.proofs.IndexLaws.{sequence-at}
 use Rattle.model_spec.specs.Validity.{WellFormed}
@@ -18,7 +18,7 @@ use Rattle.model_spec.specs.declared.RuleSet.{RuleSet}
 use Rattle.macros_spec.proofs.MoveLaws.{numbered-wider}
 use Rattle.tables_spec.specs.Table.{tableEntries, sequenceAt}
 use Rattle.tables_spec.proofs.CountLaws.{count-sequences}
-use Rattle.tables_laws.specs.ShortSequences.{shortSequence}
+use Rattle.tables_laws.specs.how.ShortSequences.{shortSequence}
 
 -- ── The loop ─────────────────────────────────────────────────────────────────────────────────────
 

@@ -12,7 +12,7 @@ use lib.ListN.{length, getD}
 use borrow.Author.Tests.{leb-true, leb-false, le-leb, lt-leb}
 use Rattle.theory_spec.specs.Lists.{_∈_, onlyIf, flat, numbersFrom, same}
 use Rattle.theory_spec.specs.Sequences.{Sequence, andThen, Numbered, withFirst, level, sequences}
-use Rattle.theory_spec.specs.Indices.{indexFrom}
+use Rattle.theory_spec.specs.how.Indices.{indexFrom}
 use Rattle.theory_spec.proofs.ListLaws.{here, same-test}
 use Rattle.theory_spec.proofs.TestLaws.{equal?}
 use Rattle.theory_spec.proofs.SequenceLaws.{of-withFirst, of-level, of-sequences}
@@ -24,7 +24,7 @@ use Rattle.macros_spec.specs.Composition.{Lines}
 use Rattle.macros_spec.specs.Redundancy.{endsIn, covers}
 use Rattle.model_spec.proofs.LoopLaws.{rules-left}
 use Rattle.tables_spec.specs.Table.{sequenceCount, kept}
-use Rattle.tables_laws.specs.Witnesses.{firstBehind, serves, firstWitness}
+use Rattle.tables_laws.specs.how.Witnesses.{firstBehind, serves, firstWitness}
 use Rattle.tables_spec.proofs.CountLaws.{behind-bound, count-bound}
 
 -- ── The first in joined lists ────────────────────────────────────────────────────────────────────

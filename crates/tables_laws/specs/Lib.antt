@@ -1,2 +1,1 @@
-pub mod ShortSequences
-pub mod Witnesses
+pub mod how

@@ -6,7 +6,7 @@ use native.Mathlib.Nat.{suc-mul, mul-le-mul-right, pow-zero, pow-suc, pow-le-pow
 use native.Mathlib.Omega.{arith}
 use lib.ListN.{length, length-append, length-map}
 use Rattle.theory_spec.specs.Sequences.{level, sequences}
-use Rattle.theory_spec.specs.Indices.{indexOf, levelStart, levelCount}
+use Rattle.theory_spec.specs.how.Indices.{indexOf, levelStart, levelCount}
 use Rattle.theory_spec.proofs.ListLaws.{length-numbersFrom}
 use Rattle.theory_spec.proofs.IndexLaws.{level-indices, sequences-count}
 use Rattle.tables_spec.specs.Table.{sequenceCount}

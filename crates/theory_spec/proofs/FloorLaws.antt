@@ -10,7 +10,7 @@ use native.Mathlib.Omega.{arith}
 use lib.ListN.{take}
 use Rattle.theory_spec.specs.Lists.{_∈_, same, Pairwise}
 use Rattle.theory_spec.specs.Sequences.{Sequence, costOf}
-use Rattle.theory_spec.specs.Recursion.{leastCost, initial, isIn, frontier}
+use Rattle.theory_spec.specs.how.Recursion.{leastCost, initial, isIn, frontier}
 use Rattle.theory_spec.proofs.ListLaws.{here, in-keep, of-keep, any-true, true-any, same-true, same-refl, passes?, not-both}
 use Rattle.theory_spec.proofs.SequenceLaws.{cost-append}
 

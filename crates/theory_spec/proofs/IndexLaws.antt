@@ -11,7 +11,7 @@ use lib.ListN.{length, getD, take, length-map, length-take, List·getD-map}
 use lib.Seq.{take-suc, take-length}
 use Rattle.theory_spec.specs.Lists.{_∈_, flat, numbersFrom}
 use Rattle.theory_spec.specs.Sequences.{Sequence, Numbered, numbers, withFirst, level, sequences}
-use Rattle.theory_spec.specs.Indices.{indexFrom, indexOf, levelStart, levelCount, sequenceOf}
+use Rattle.theory_spec.specs.how.Indices.{indexFrom, indexOf, levelStart, levelCount, sequenceOf}
 use Rattle.theory_spec.proofs.ListLaws.{flat-same, flat-map, flat-flat, flat-one, map-flat, map-of-map, in-getD, length-numbersFrom}
 use Rattle.theory_spec.proofs.SequenceLaws.{numbered-left, numbered-right, of-sequences, in-sequences}
 

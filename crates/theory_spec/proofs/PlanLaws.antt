@@ -16,7 +16,7 @@ use Rattle.theory_spec.specs.Sequences.{Sequence, run, costOf, sequences
 use Rattle.theory_spec.specs.Order.{LexBefore, Before}
 use Rattle.theory_spec.specs.Pruning.{Closed, Justified}
 use Rattle.theory_spec.specs.Plans.{reaches, isPlan, candidates, cheapest, Preferred, Least, allowed, isVisited, visited}
-use Rattle.theory_spec.specs.Recursion.{better, improved, best, isIn}
+use Rattle.theory_spec.specs.how.Recursion.{better, improved, best, isIn}
 use Rattle.theory_spec.proofs.ListLaws.{or-split, or-left, or-right, and-split, and-join, here, in-keep, of-keep, pairwise-keep, passes?, not-both}
 use Rattle.theory_spec.proofs.SequenceLaws.{of-sequences, in-sequences, of-depthFirst, in-depthFirst}
 use Rattle.theory_spec.proofs.OrderLaws.{sequences-ordered, depthFirst-ordered}

@@ -16,7 +16,7 @@ use Rattle.theory_spec.specs.Lists.{_∈_, any, keep, flat, foldOver, is
 use Rattle.theory_spec.specs.Sequences.{Sequence, andThen, run, costOf, numbers, Numbered, withFirst, depthFirst}
 use Rattle.theory_spec.specs.Pruning.{prefixes, segments, pruned}
 use Rattle.theory_spec.specs.Plans.{allowed, isVisited, visited}
-use Rattle.theory_spec.specs.Recursion.{enter, explore, suffixes, shortSuffixes, allowedNext, enterWith, exploreWith}
+use Rattle.theory_spec.specs.how.Recursion.{enter, explore, suffixes, shortSuffixes, allowedNext, enterWith, exploreWith}
 use Rattle.theory_spec.proofs.ListLaws.{of-isSome, keep-none, keep-pass, keep-flat, flat-same, fold-append, map-flat, map-of-map, map-id, any-append, any-keep, and-split, and-join, passes?, not-both}
 use Rattle.theory_spec.proofs.SequenceLaws.{run-append, run-split, cost-append, numbered-append, of-numbers}
 use Rattle.theory_spec.proofs.PruningLaws.{pruned-around}

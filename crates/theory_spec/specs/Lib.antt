@@ -3,5 +3,4 @@ pub mod Sequences
 pub mod Order
 pub mod Pruning
 pub mod Plans
-pub mod Indices
-pub mod Recursion
+pub mod how

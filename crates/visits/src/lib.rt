@@ -20,7 +20,7 @@ use search_states::start_state;
 ghost use mathlib.Core.Path.{_≡_};
 ghost use lib.ListN.{take};
 ghost use Rattle.search_spec.specs.Query.{asked};
-ghost use Rattle.search_laws.specs.Visits.{Lent, Reached, visitsFrom, Explores};
+ghost use Rattle.search_laws.specs.how.Visits.{Lent, Reached, visitsFrom, Explores};
 
 // The floor while no sequence beyond the limit is met: no cost is larger.
 const NO_FLOOR: u16 = 65535;

@@ -13,7 +13,7 @@ ghost use lib.Dec.{leb};
 ghost use Rattle.theory_spec.specs.Lists.{same};
 ghost use Rattle.theory_spec.specs.Sequences.{level};
 ghost use Rattle.model_spec.specs.States.{applicable, successor};
-ghost use Rattle.tables_laws.specs.Witnesses.{firstWitness};
+ghost use Rattle.tables_laws.specs.how.Witnesses.{firstWitness};
 
 // The index of a sequence with one more rule.
 pub fn index_behind(index: u16, count: u8, number: u8) -> usize

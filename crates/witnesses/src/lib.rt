@@ -15,7 +15,7 @@ ghost use Prim.Native.Nat.{_-_, _≤_, _<_};
 ghost use Rattle.theory_spec.specs.Sequences.{level, sequences};
 ghost use Rattle.macros_spec.specs.Composition.{linesOf};
 ghost use Rattle.tables_spec.specs.Table.{sequenceCount};
-ghost use Rattle.tables_laws.specs.Witnesses.{firstBehind, serves, firstWitness};
+ghost use Rattle.tables_laws.specs.how.Witnesses.{firstBehind, serves, firstWitness};
 
 // Behind the sequence of `index`, which has led to these entries and left so much to spend: the index of the first
 // sequence with `more` rules more, from 1 to 3, that leads to the target; 65535 if none does.

@@ -5,7 +5,7 @@ use Prim.Native.Nat.{_-_}
 use native.Mathlib.Omega.{arith}
 use lib.ListN.{length, length-set}
 use borrow.Author.Needs.{needs}
-use Rattle.model_spec.specs.Buffers.{filledFrom}
+use Rattle.model_spec.specs.how.Buffers.{filledFrom}
 use Rattle.model_spec.proofs.BufferLaws.{filled-more, filled-past}
 use Rattle.buffers.proofs.fill_from.Statement.{statement}
 use Rattle.buffers.proofs.fill_from.Tie as tie

@@ -15,8 +15,8 @@ use Rattle.macros_spec.specs.Composition.{composed, asVectors, linesOf}
 use Rattle.macros_spec.specs.declared.Vectors.{Vectors}
 use Rattle.macros_spec.proofs.ExtensionLaws.{lines-vectors}
 use Rattle.tables_spec.specs.Table.{tableEntries, kept, builtEntry}
-use Rattle.tables_laws.specs.ShortSequences.{shortSequence}
-use Rattle.tables_laws.specs.Witnesses.{firstBehind, serves, firstWitness}
+use Rattle.tables_laws.specs.how.ShortSequences.{shortSequence}
+use Rattle.tables_laws.specs.how.Witnesses.{firstBehind, serves, firstWitness}
 use Rattle.tables_spec.proofs.TableLaws.{entries-bound}
 use Rattle.tables_laws.proofs.SequenceLoopLaws.{short-at}
 use Rattle.tables_laws.proofs.WitnessLaws.{witness-searched}

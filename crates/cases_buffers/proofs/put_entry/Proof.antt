@@ -4,7 +4,7 @@ use mathlib.Core.Path.{_∙_}
 use native.Mathlib.Omega.{arith}
 use borrow.Author.Tests.{le-leb, lt-leb}
 use borrow.Author.Needs.{needs}
-use Rattle.cases_laws.specs.Texts.{withEntry}
+use Rattle.cases_laws.specs.how.Texts.{withEntry}
 use Rattle.cases_buffers.proofs.put_entry.Statement.{statement}
 use Rattle.cases_buffers.proofs.put_entry.Tie as tie
 

@@ -8,7 +8,7 @@ use native.Mathlib.Omega.{arith}
 use lib.ListN.{length, length-set}
 use lib.Seq.{paste, paste-zero}
 use borrow.Author.Needs.{needs}
-use Rattle.cases_laws.specs.Texts.{lineFed}
+use Rattle.cases_laws.specs.how.Texts.{lineFed}
 use Rattle.cases_laws.proofs.TextLaws.{decoded-more}
 use Rattle.cases_common.proofs.decode.Statement.{statement}
 use Rattle.cases_common.proofs.decode.Tie as tie

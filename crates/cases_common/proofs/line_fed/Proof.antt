@@ -1,7 +1,7 @@
 -- `cases_common::line_fed` meets its contract: by whether the byte is `/`.
 -- Assumes nothing.
 use borrow.Author.Tests.{eq-eqb, ne-eqb}
-use Rattle.cases_laws.specs.Texts.{lineFed}
+use Rattle.cases_laws.specs.how.Texts.{lineFed}
 use Rattle.cases_common.proofs.line_fed.Statement.{statement}
 use Rattle.cases_common.proofs.line_fed.Tie as tie
 

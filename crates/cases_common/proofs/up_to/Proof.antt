@@ -5,7 +5,7 @@ use native.Mathlib.Omega.{arith}
 use lib.ListN.{take}
 use lib.Seq.{length-take-le}
 use borrow.Author.Needs.{needs}
-use Rattle.cases_laws.specs.Texts.{upTo}
+use Rattle.cases_laws.specs.how.Texts.{upTo}
 use Rattle.cases_laws.proofs.TextLaws.{place-whole}
 use Rattle.cases_common.proofs.up_to.Statement.{statement}
 use Rattle.cases_common.proofs.up_to.Tie as tie

@@ -10,7 +10,7 @@ use Rattle.theory_spec.specs.Lists.{flat}
 use Rattle.model_spec.specs.declared.RuleSet.{RuleSet}
 use Rattle.files_spec.specs.Text.{bytes, lineFeed, numeral, line}
 use Rattle.files_spec.specs.File.{ruleText, render}
-use Rattle.output_laws.specs.Overlay.{shownNumeral, listText}
+use Rattle.output_laws.specs.how.Overlay.{shownNumeral, listText}
 use Rattle.output_laws.proofs.ByteLaws.{positions-byte, count-byte}
 use Rattle.output_laws.proofs.OverlayLaws.{shown-number, laid-append}
 use Rattle.output_laws.proofs.WriteLoopLaws.{list-line}

@@ -7,7 +7,7 @@ use native.Mathlib.Omega.{arith}
 use lib.Seq.{slice}
 use borrow.Author.Needs.{needs}
 use Rattle.files_spec.specs.Text.{numeral}
-use Rattle.output_laws.specs.Overlay.{listText}
+use Rattle.output_laws.specs.how.Overlay.{listText}
 use Rattle.files_spec.proofs.TextLaws.{ended}
 use Rattle.output_laws.proofs.OverlayLaws.{Remains, remains-all, remains-length, remains-none}
 use Rattle.output_laws.proofs.WriteLoopLaws.{list-none, list-all, ended-rest, ended-none}

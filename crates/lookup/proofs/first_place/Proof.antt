@@ -5,8 +5,8 @@ use Prim.Native.Nat.{ℕ, _-_, _*_, _+_, _≤_, min}
 use native.Mathlib.Omega.{arith}
 use lib.ListN.{length, getD, take}
 use borrow.Author.Needs.{needs}
-use Rattle.theory_spec.specs.Indices.{indexOf}
-use Rattle.theory_spec.specs.Recursion.{last}
+use Rattle.theory_spec.specs.how.Indices.{indexOf}
+use Rattle.theory_spec.specs.how.Recursion.{last}
 use Rattle.search_laws.proofs.LookupLaws.{last-none, last-empty, last-one, last-two, places-small, take-within}
 use Rattle.lookup.proofs.first_place.Statement.{statement}
 use Rattle.lookup.proofs.first_place.Tie as tie

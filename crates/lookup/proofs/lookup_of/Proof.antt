@@ -12,7 +12,7 @@ use borrow.Author.Tests.{eq-eqb, ne-eqb}
 use Rattle.theory_spec.proofs.ListLaws.{zeros-at}
 use Rattle.tables_spec.specs.Table.{sequenceCount, kept, entryAt}
 use Rattle.tables_spec.proofs.CountLaws.{count-bound}
-use Rattle.search_laws.specs.Lookup.{LooksUp}
+use Rattle.search_laws.specs.how.Lookup.{LooksUp}
 use Rattle.search_laws.proofs.LookupLaws.{LooksUpTo, BlankFrom, look-up-start, some-rule, look-up-more, blank-more}
 use Rattle.search_laws.proofs.LookupLaws.{look-up-whole}
 use Rattle.lookup.proofs.lookup_of.Statement.{statement}

@@ -2,7 +2,7 @@
 -- Assumes nothing.
 use native.Mathlib.Omega.{arith}
 use borrow.Author.Needs.{needs}
-use Rattle.output_laws.specs.Overlay.{placeAfter}
+use Rattle.output_laws.specs.how.Overlay.{placeAfter}
 use Rattle.output.proofs.following.Statement.{statement}
 use Rattle.output.proofs.following.Tie as tie
 

@@ -5,7 +5,7 @@ use Prim.Native.Nat.{ℕ}
 use lib.ListN.{set}
 use borrow.Author.Needs.{needs}
 use Rattle.model_spec.specs.Validity.{conditionPlaced}
-use Rattle.reader_laws.specs.Parts.{conditionEntry}
+use Rattle.reader_laws.specs.how.Parts.{conditionEntry}
 use Rattle.reader_laws.proofs.PlacementLaws.{entry-refused, entry-misplaced, entry-placed}
 use Rattle.read_entries.proofs.condition_item.Statement.{statement}
 use Rattle.read_entries.proofs.condition_item.Tie as tie

@@ -4,7 +4,7 @@ use mathlib.Core.Bool.{Bool}
 use Prim.Native.Nat.{ℕ}
 use borrow.Author.Needs.{needs}
 use Rattle.model_spec.specs.Validity.{effectPlaced}
-use Rattle.reader_laws.specs.Parts.{effectEntry}
+use Rattle.reader_laws.specs.how.Parts.{effectEntry}
 use Rattle.reader_laws.proofs.PlacementLaws.{entry-refused, entry-misplaced, entry-placed}
 use Rattle.read_entries.proofs.effect_item.Statement.{statement}
 use Rattle.read_entries.proofs.effect_item.Tie as tie

@@ -8,7 +8,7 @@ use borrow.Author.Needs.{needs}
 use Rattle.theory_spec.specs.Lists.{within}
 use Rattle.theory_spec.proofs.TestLaws.{within-iff}
 use Rattle.files_spec.specs.Reading.{parsed, number, numberWithin, variable}
-use Rattle.reader_laws.specs.Found.{found}
+use Rattle.reader_laws.specs.how.Found.{found}
 use Rattle.reader_laws.proofs.FoundLaws.{parsed-found, then-refused, then-parsed, unless-value}
 use Rattle.read_entries.proofs.variable.Statement.{statement}
 use Rattle.read_entries.proofs.variable.Tie as tie

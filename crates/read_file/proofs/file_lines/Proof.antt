@@ -7,8 +7,8 @@ use native.Mathlib.Omega.{arith}
 use lib.ListN.{drop}
 use borrow.Author.Needs.{needs}
 use Rattle.files_spec.specs.Reading.{numberLine, sizeItem, listLine, fileLines}
-use Rattle.reader_laws.specs.Found.{found}
-use Rattle.reader_laws.specs.Parts.{keyedNumber}
+use Rattle.reader_laws.specs.how.Found.{found}
+use Rattle.reader_laws.specs.how.Parts.{keyedNumber}
 use Rattle.reader_laws.proofs.FoundLaws.{found-parsed, parsed-found, then-refused, then-parsed}
 use Rattle.files_spec.proofs.LineLaws.{number-line-read}
 use Rattle.read_file.proofs.file_lines.Statement.{statement}

@@ -2,7 +2,7 @@
 -- Assumes nothing.
 use mathlib.Core.Path.{_∙_}
 use borrow.Author.Needs.{needs}
-use Rattle.reader_laws.specs.Parts.{keyedNumber}
+use Rattle.reader_laws.specs.how.Parts.{keyedNumber}
 use Rattle.reader_laws.proofs.FoundLaws.{then-refused, then-parsed}
 use Rattle.read_lines.proofs.number_line.Statement.{statement}
 use Rattle.read_lines.proofs.number_line.Tie as tie

@@ -3,7 +3,7 @@
 use mathlib.Core.Path.{_∙_}
 use borrow.Author.Needs.{needs}
 use Rattle.files_spec.specs.Reading.{numberLine, ruleLines}
-use Rattle.reader_laws.specs.Parts.{keyedNumber}
+use Rattle.reader_laws.specs.how.Parts.{keyedNumber}
 use Rattle.reader_laws.proofs.FoundLaws.{parsed-found, then-refused, then-parsed}
 use Rattle.read_rule.proofs.rule_lines.Statement.{statement}
 use Rattle.read_rule.proofs.rule_lines.Tie as tie

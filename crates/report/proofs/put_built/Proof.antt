@@ -11,7 +11,7 @@ use Rattle.tables_spec.specs.Table.{tableEntries, builtTable}
 use Rattle.tables_spec.specs.Answers.{builtBuffer}
 use Rattle.tables_spec.proofs.AnswerLaws.{build-ready-iff, built-whole}
 use Rattle.report_spec.specs.Listing.{listingOf}
-use Rattle.report_laws.specs.Marks.{tableText}
+use Rattle.report_laws.specs.how.Marks.{tableText}
 use Rattle.report_laws.proofs.TableTextLaws.{table-listing}
 use Rattle.report_spec.proofs.LengthLaws.{marked-count}
 use Rattle.report.proofs.put_built.Statement.{statement}

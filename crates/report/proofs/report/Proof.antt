@@ -14,7 +14,7 @@ use Rattle.files_spec.specs.Text.{numeral, line}
 use Rattle.files_spec.specs.Reading.{reading}
 use Rattle.files_spec.specs.declared.Reading.{Reading}
 use Rattle.files_spec.proofs.ReadTextLaws.{read-valid}
-use Rattle.output_laws.specs.Overlay.{lastPlace}
+use Rattle.output_laws.specs.how.Overlay.{lastPlace}
 use Rattle.output_laws.proofs.OverlayLaws.{laid-length, laid-end, zeros-laid}
 use Rattle.report_spec.specs.Listing.{listingOf, listing}
 use Rattle.report_spec.specs.Report.{reportLength, reported, ReportMeaning}

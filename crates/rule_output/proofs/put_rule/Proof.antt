@@ -8,7 +8,7 @@ use borrow.Author.Needs.{needs}
 use Rattle.model_spec.specs.declared.Rule.{Rule}
 use Rattle.files_spec.specs.Text.{bytes, lineFeed, line}
 use Rattle.files_spec.specs.File.{entryText, ruleText}
-use Rattle.output_laws.specs.Overlay.{shownNumeral, listText}
+use Rattle.output_laws.specs.how.Overlay.{shownNumeral, listText}
 use Rattle.output_laws.proofs.ByteLaws.{cost-byte}
 use Rattle.output_laws.proofs.OverlayLaws.{shown-number, laid-append}
 use Rattle.output_laws.proofs.WriteLoopLaws.{list-line}

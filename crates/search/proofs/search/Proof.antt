@@ -11,7 +11,7 @@ use Rattle.model_spec.proofs.BufferLaws.{filled-whole}
 use Rattle.search_spec.specs.Query.{Query, asked}
 use Rattle.search_spec.specs.Searched.{queryCauses, noMove}
 use Rattle.search_spec.proofs.OutcomeLaws.{withoutPlan, searched-refused}
-use Rattle.search_laws.specs.Visits.{Explored, Explores}
+use Rattle.search_laws.specs.how.Visits.{Explored, Explores}
 use Rattle.search_laws.proofs.AnswerLaws.{leftWith, answers, explored-limited, explored-unsolvable, explored-room}
 use Rattle.search_laws.proofs.AnswerLaws.{explored-solved}
 use Rattle.search.proofs.search.Statement.{statement}

@@ -3,7 +3,7 @@
 use mathlib.Core.Path.{sym, _∙_}
 use borrow.Author.Needs.{needs}
 use borrow.Author.Tests.{lt-ltb, le-ltb}
-use Rattle.search_laws.specs.Visits.{bestAt, notedMoves}
+use Rattle.search_laws.specs.how.Visits.{bestAt, notedMoves}
 use Rattle.search_progress.proofs.noted.Statement.{statement}
 use Rattle.search_progress.proofs.noted.Tie as tie
 

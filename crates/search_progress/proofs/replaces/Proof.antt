@@ -3,7 +3,7 @@
 use mathlib.Core.Path.{_≡_}
 use native.Mathlib.Omega.{arith}
 use borrow.Author.Tests.{lt-ltb, le-ltb, eq-eqb, ne-eqb}
-use Rattle.search_laws.specs.Visits.{replaces}
+use Rattle.search_laws.specs.how.Visits.{replaces}
 use Rattle.search_progress.proofs.replaces.Statement.{statement}
 use Rattle.search_progress.proofs.replaces.Tie as tie
 

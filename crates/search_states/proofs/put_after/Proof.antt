@@ -8,7 +8,7 @@ use lib.ListN.{length}
 use borrow.Author.Needs.{needs}
 use Rattle.model_spec.specs.States.{successor}
 use Rattle.model_spec.proofs.StateLaws.{successor-at, successor-length}
-use Rattle.search_laws.specs.Visits.{laidOver}
+use Rattle.search_laws.specs.how.Visits.{laidOver}
 use Rattle.search_laws.proofs.StateLoopLaws.{laid-none, laid-more}
 use Rattle.search_states.proofs.put_after.Statement.{statement}
 use Rattle.search_states.proofs.put_after.Tie as tie

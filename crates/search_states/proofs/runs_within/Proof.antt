@@ -11,7 +11,7 @@ use borrow.Author.Needs.{needs}
 use Rattle.theory_spec.specs.Lists.{same}
 use Rattle.model_spec.specs.States.{valueOf, valuesOf}
 use Rattle.model_spec.proofs.LoopLaws.{same-go, same-stop, same-end}
-use Rattle.search_laws.specs.Visits.{meetsWithin}
+use Rattle.search_laws.specs.how.Visits.{meetsWithin}
 use Rattle.search_states.proofs.runs_within.Statement.{statement}
 use Rattle.search_states.proofs.runs_within.Tie as tie
 

@@ -8,8 +8,8 @@ use native.Mathlib.Nat.{mod-lt}
 use native.Mathlib.Omega.{arith}
 use lib.ListN.{length, drop, length-set}
 use borrow.Author.Needs.{needs}
-use Rattle.theory_spec.specs.Indices.{sequenceOf}
-use Rattle.tables_laws.specs.ShortSequences.{shortSequence}
+use Rattle.theory_spec.specs.how.Indices.{sequenceOf}
+use Rattle.tables_laws.specs.how.ShortSequences.{shortSequence}
 use Rattle.tables_laws.proofs.SequenceLoopLaws.{sequence-go, sequence-end, sequence-full}
 use Rattle.sequences.proofs.sequence_at.Statement.{statement}
 use Rattle.sequences.proofs.sequence_at.Tie as tie

@@ -6,7 +6,7 @@ use Prim.Native.Nat.{_+_, _-_, _/_, _≤_}
 use native.Mathlib.Omega.{arith}
 use lib.ListN.{length}
 use borrow.Author.Needs.{needs}
-use Rattle.report_laws.specs.Marks.{tableMarks}
+use Rattle.report_laws.specs.how.Marks.{tableMarks}
 use Rattle.report_laws.proofs.MarkLoopLaws.{marksFrom, marks-all, marks-more, marks-next, marks-end}
 use Rattle.table_output.proofs.count_marks.Statement.{statement}
 use Rattle.table_output.proofs.count_marks.Tie as tie

@@ -5,7 +5,7 @@ use native.Mathlib.Omega.{arith}
 use lib.ListN.{length}
 use borrow.Author.Needs.{needs}
 use Rattle.output_laws.proofs.OverlayLaws.{Remains, remains-all, remains-length, remains-none, remains-rest}
-use Rattle.report_laws.specs.Marks.{marksText}
+use Rattle.report_laws.specs.how.Marks.{marksText}
 use Rattle.report_laws.proofs.MarkLoopLaws.{linesFrom, lines-all, lines-more, lines-end}
 use Rattle.table_output.proofs.put_marks.Statement.{statement}
 use Rattle.table_output.proofs.put_marks.Tie as tie

@@ -7,9 +7,9 @@ use native.Mathlib.Omega.{arith}
 use lib.ListN.{length}
 use borrow.Author.Needs.{needs}
 use Rattle.files_spec.specs.Text.{bytes, lineFeed, line}
-use Rattle.output_laws.specs.Overlay.{shownNumeral}
+use Rattle.output_laws.specs.how.Overlay.{shownNumeral}
 use Rattle.output_laws.proofs.OverlayLaws.{shown-number, laid-append}
-use Rattle.report_laws.specs.Marks.{tableMarks, marksText, tableText}
+use Rattle.report_laws.specs.how.Marks.{tableMarks, marksText, tableText}
 use Rattle.table_output.proofs.put_table.Statement.{statement}
 use Rattle.table_output.proofs.put_table.Tie as tie
 

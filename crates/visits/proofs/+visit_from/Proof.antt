@@ -12,12 +12,12 @@ use borrow.Fn.PlainCycle.{Measures, is, falls, and}
 use lib.ListN.{take, set}
 use lib.Seq.{set-set}
 use Rattle.theory_spec.specs.Lists.{padded}
-use Rattle.theory_spec.specs.Indices.{indexOf}
-use Rattle.theory_spec.specs.Recursion.{last}
+use Rattle.theory_spec.specs.how.Indices.{indexOf}
+use Rattle.theory_spec.specs.how.Recursion.{last}
 use Rattle.tables_spec.specs.Table.{sequenceCount}
 use Rattle.tables_spec.proofs.CountLaws.{count-bound}
 use Rattle.search_spec.specs.Searched.{noMove}
-use Rattle.search_laws.specs.Visits.{noted}
+use Rattle.search_laws.specs.how.Visits.{noted}
 use Rattle.search_laws.proofs.LookupLaws.{place-fits}
 use Rattle.search_laws.proofs.PlanArrayLaws.{plan-more, noted-plan}
 use Rattle.search_laws.proofs.VisitLoopLaws.{goes-cheap, restFrom, visits-last, whole, whole-exceeded, loop-end}

@@ -6,7 +6,7 @@ use borrow.Author.Needs.{needs}
 use Rattle.model_spec.specs.Refusals.{firstRefusal}
 use Rattle.search_spec.specs.Query.{Query, asked}
 use Rattle.search_spec.specs.Searched.{queryCauses, NotRefused}
-use Rattle.search_laws.specs.Visits.{noBest, noProgress}
+use Rattle.search_laws.specs.how.Visits.{noBest, noProgress}
 use Rattle.search_laws.proofs.ExploredLaws.{explored-whole, same-refusal, unrefused}
 use Rattle.search_laws.proofs.LentLaws.{lent-whole, reached-first}
 use Rattle.visits.proofs.explored.Statement.{statement}

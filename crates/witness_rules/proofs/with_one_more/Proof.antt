@@ -6,7 +6,7 @@ use Prim.Native.Nat.{_≤_, _-_}
 use native.Mathlib.Omega.{arith}
 use borrow.Author.Needs.{needs}
 use Rattle.theory_spec.specs.Sequences.{level}
-use Rattle.tables_laws.specs.Witnesses.{firstWitness}
+use Rattle.tables_laws.specs.how.Witnesses.{firstWitness}
 use Rattle.tables_laws.proofs.WitnessLaws.{witness-searched, witness-unsearched, fromRule, from-first, from-end, last-next, last-found}
 use Rattle.witness_rules.proofs.with_one_more.Statement.{statement}
 use Rattle.witness_rules.proofs.with_one_more.Tie as tie

@@ -17,7 +17,7 @@ use Rattle.theory_spec.proofs.ListLaws.{and-split}
 use Rattle.model_spec.specs.declared.RuleSet.{RuleSet}
 use Rattle.macros_spec.specs.Composition.{Lines}
 use Rattle.tables_spec.specs.Table.{sequenceCount, kept}
-use Rattle.tables_laws.specs.Witnesses.{firstBehind, serves, firstWitness}
+use Rattle.tables_laws.specs.how.Witnesses.{firstBehind, serves, firstWitness}
 use Rattle.tables_spec.proofs.CountLaws.{count-bound, behind-bound}
 use Rattle.tables_laws.proofs.WitnessLaws.{witness-searched, fromRule, runsHere, throughRule, from-first, from-end, from-next, from-through, from-found}
 use Rattle.states.proofs.after.Reads as after-reads

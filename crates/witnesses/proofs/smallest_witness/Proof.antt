@@ -14,7 +14,7 @@ use Rattle.macros_spec.specs.Composition.{Lines, linesOf}
 use Rattle.macros_spec.specs.Redundancy.{covers}
 use Rattle.macros_spec.specs.declared.Vectors.{Vectors}
 use Rattle.tables_spec.specs.Table.{kept}
-use Rattle.tables_laws.specs.Witnesses.{firstBehind, serves, firstWitness}
+use Rattle.tables_laws.specs.how.Witnesses.{firstBehind, serves, firstWitness}
 use Rattle.tables_spec.proofs.CountLaws.{count-levels}
 use Rattle.tables_laws.proofs.WitnessLaws.{witness-searched, witness-unsearched, serves-last, upTo, empty-found, empty-next, lengths-next, lengths-found, lengths-end}
 use Rattle.witnesses.proofs.smallest_witness.Statement.{statement}

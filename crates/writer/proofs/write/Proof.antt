@@ -19,7 +19,7 @@ use Rattle.files_spec.specs.Meaning.{WriteMeaning}
 use Rattle.files_spec.specs.declared.Written.{Written}
 use Rattle.files_spec.proofs.LengthLaws.{render-bound}
 use Rattle.files_spec.proofs.MeaningLaws.{write-meaning}
-use Rattle.output_laws.specs.Overlay.{lastPlace}
+use Rattle.output_laws.specs.how.Overlay.{lastPlace}
 use Rattle.output_laws.proofs.OverlayLaws.{laid-length, laid-end, zeros-whole, zeros-laid}
 use Rattle.writer.proofs.write.Statement.{statement}
 use Rattle.writer.proofs.write.Tie as tie

@@ -10,9 +10,9 @@ use lib.Dec.{leb, ltb, eqb}
 use lib.ListN.{length, getD, take, drop, replicate}
 use Rattle.theory_spec.specs.Lists.{onlyIf, padded, same}
 use Rattle.theory_spec.specs.Sequences.{Sequence, costOf, Numbered}
-use Rattle.theory_spec.specs.Indices.{indexOf}
+use Rattle.theory_spec.specs.how.Indices.{indexOf}
 use Rattle.theory_spec.specs.Plans.{reaches}
-use Rattle.theory_spec.specs.Recursion.{last, exploreWith, best, leastCost}
+use Rattle.theory_spec.specs.how.Recursion.{last, exploreWith, best, leastCost}
 use Rattle.model_spec.specs.States.{State, valuesOf, applicable, successor}
 use Rattle.model_spec.specs.Rules.{stepOf, ruleCost, sequenceCost}
 use Rattle.model_spec.specs.Refusals.{firstRefusal}

@@ -6,9 +6,9 @@ use Prim.Native.Nat.{ℕ, _/_, max}
 use lib.Dec.{eqb}
 use lib.ListN.{length}
 use Rattle.theory_spec.specs.Lists.{keep, flat, numbersFrom}
-use Rattle.theory_spec.specs.Indices.{sequenceOf}
+use Rattle.theory_spec.specs.how.Indices.{sequenceOf}
 use Rattle.files_spec.specs.Text.{bytes, lineFeed, numeral, commaList, line}
-use Rattle.output_laws.specs.Overlay.{shownNumeral}
+use Rattle.output_laws.specs.how.Overlay.{shownNumeral}
 use Rattle.tables_spec.specs.Table.{kept, entryAt}
 
 -- entry i of a table marks its sequence

@@ -3,7 +3,7 @@
 -- index of its tables it is `sequenceAt`.
 use Prim.Native.Nat.{ℕ, min, max}
 use Rattle.theory_spec.specs.Sequences.{Sequence}
-use Rattle.theory_spec.specs.Indices.{sequenceOf}
+use Rattle.theory_spec.specs.how.Indices.{sequenceOf}
 
 -- of as many rules as a valid set may have, from 1 to 31
 unfoldable pub shortSequence : ℕ → ℕ → Sequence

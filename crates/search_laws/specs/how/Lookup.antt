@@ -8,8 +8,8 @@ use lib.Dec.{eqb, ltb}
 use lib.ListN.{length, getD}
 use Rattle.theory_spec.specs.Lists.{any}
 use Rattle.theory_spec.specs.Sequences.{Sequence}
-use Rattle.theory_spec.specs.Indices.{indexOf, sequenceOf}
-use Rattle.theory_spec.specs.Recursion.{suffixes}
+use Rattle.theory_spec.specs.how.Indices.{indexOf, sequenceOf}
+use Rattle.theory_spec.specs.how.Recursion.{suffixes}
 use Rattle.tables_spec.specs.Table.{sequenceCount, kept, entryAt}
 
 -- the entry at the index of a sequence of rules 1 to m is a mark

@@ -6,7 +6,7 @@ use mathlib.Core.List.{List, [], _∷_}
 use Prim.Native.Nat.{ℕ}
 use lib.Dec.{leb}
 use Rattle.theory_spec.specs.Sequences.{Sequence}
-use Rattle.theory_spec.specs.Indices.{indexFrom}
+use Rattle.theory_spec.specs.how.Indices.{indexFrom}
 use Rattle.model_spec.specs.Rules.{sequenceCost}
 use Rattle.model_spec.specs.declared.RuleSet.{RuleSet}
 use Rattle.macros_spec.specs.Composition.{Lines}
