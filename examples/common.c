@@ -1,16 +1,74 @@
 #include "common.h"
 
 #include <errno.h>
+#include <fcntl.h>
 #include <inttypes.h>
-#include <stdbool.h>
-#include <stdio.h>
 #include <stdlib.h>
 #include <string.h>
 #include <sys/stat.h>
+#include <unistd.h>
+
+#include "planner.h"
+
+/* The most bytes of an argument or a path that a message shows. */
+enum { SHOWN_IN_MESSAGE = 200 };
+
+/* What ends a program that does not handle it, and is sent by a person, a terminal or the system's shutdown. */
+static const int ending_signals[] = {SIGHUP, SIGINT, SIGQUIT, SIGTERM};
+enum { ENDING_SIGNALS = sizeof ending_signals / sizeof ending_signals[0] };
+
+void begin(void)
+{
+    /* each against the stream's own direction: reading or writing it fails, as it would have */
+    for (int stream = STDIN_FILENO; stream <= STDERR_FILENO; stream++)
+        if (fcntl(stream, F_GETFD) == -1 && open("/dev/null", stream == STDIN_FILENO ? O_WRONLY : O_RDONLY) != stream)
+            _exit(STATUS_FAILED);
+    if (setvbuf(stderr, NULL, _IOLBF, BUFSIZ) != 0 || signal(SIGXFSZ, SIG_IGN) == SIG_ERR)
+        fail("start", strerror(errno));
+}
+
+int finish(uint8_t outcome)
+{
+    bool failed = ferror(stdout) != 0;
+    if (fclose(stdout) != 0 || failed)
+        fail("standard output", "could not be written");
+    return outcome == PLANNER_OK ? STATUS_OK : STATUS_OUTCOME;
+}
+
+/* The bytes of the character at the front of a text, or 0 for one that is not shown: a control character (C0, DEL, C1)
+ * or what is no UTF-8. */
+static size_t character_size(const char *text)
+{
+    const unsigned char *at = (const unsigned char *)text;
+    if (at[0] < 0x80)
+        return at[0] >= ' ' && at[0] != 0x7f;
+    size_t size = at[0] >= 0xf5 ? 0 : at[0] >= 0xf0 ? 4 : at[0] >= 0xe0 ? 3 : at[0] >= 0xc2 ? 2 : 0;
+    for (size_t next = 1; next < size; next++)
+        if ((at[next] & 0xc0) != 0x80)
+            return 0;
+    return at[0] == 0xc2 && at[1] < 0xa0 ? 0 : size;
+}
+
+void put_text(FILE *out, const char *text, size_t most)
+{
+    const char *at = text;
+    while (*at != '\0' && (size_t)(at - text) < most) {
+        size_t size = character_size(at);
+        if (size == 0)
+            fputc('?', out);
+        else
+            fwrite(at, 1, size, out);
+        at += size == 0 ? 1 : size;
+    }
+    if (*at != '\0')
+        fputs("..", out);
+}
 
 void complain(const char *subject, const char *reason)
 {
-    fprintf(stderr, "%s: %s: %s\n", program, subject, reason);
+    fprintf(stderr, "%s: ", program);
+    put_text(stderr, subject, SHOWN_IN_MESSAGE);
+    fprintf(stderr, ": %s\n", reason);
 }
 
 void fail(const char *subject, const char *reason)
@@ -37,39 +95,59 @@ uint64_t number(const char *subject, const char *text, uint64_t most)
         value = value * 10 + digit;
     }
     if (!fits) {
-        fprintf(stderr, "%s: %s: '%s' is not a number from 0 to %" PRIu64 "\n", program, subject, text, most);
+        fprintf(stderr, "%s: %s: '", program, subject);
+        put_text(stderr, text, SHOWN_IN_MESSAGE);
+        fprintf(stderr, "' is not a number from 0 to %" PRIu64 "\n", most);
         exit(STATUS_FAILED);
     }
     return value;
 }
 
-/* Twice the room for a file's bytes. */
-static size_t enlarge(const char *path, struct bytes *bytes, size_t room)
+/* Reads until the room is full or the file ends; gives the bytes read, or -1 and errno. */
+static ssize_t read_all(int file, uint8_t *at, size_t room)
 {
-    size_t larger = room == 0 ? 4096 : 2 * room;
-    uint8_t *at = realloc(bytes->at, larger);
-    if (at == NULL)
-        fail(path, strerror(ENOMEM));
-    bytes->at = at;
-    return larger;
+    size_t length = 0;
+    while (length < room) {
+        ssize_t got = read(file, at + length, room - length);
+        if (got == 0)
+            break;
+        if (got > 0)
+            length += (size_t)got;
+        else if (errno != EINTR)
+            return -1;
+    }
+    return (ssize_t)length;
 }
 
-struct bytes read_file(const char *path)
+struct bytes read_file(const char *path, size_t most)
 {
-    struct bytes bytes = {NULL, 0};
-    size_t room = 0;
-    FILE *file = fopen(path, "rb");
-    if (file == NULL)
+    int file = open(path, O_RDONLY | O_NOCTTY);
+    if (file < 0)
         fail(path, strerror(errno));
-    while (!feof(file)) {
-        if (bytes.length == room)
-            room = enlarge(path, &bytes, room);
-        bytes.length += fread(bytes.at + bytes.length, 1, room - bytes.length, file);
-        if (ferror(file))
-            fail(path, strerror(errno));
-    }
-    fclose(file);
+    /* one byte more shows whether the file goes on */
+    struct bytes bytes = {.at = allocate(most + 1)};
+    ssize_t length = read_all(file, bytes.at, most + 1);
+    if (length < 0 || close(file) != 0)
+        fail(path, strerror(errno));
+    bytes.cut = (size_t)length > most;
+    bytes.length = bytes.cut ? most : (size_t)length;
     return bytes;
+}
+
+bool write_all(int file, const void *bytes, size_t length)
+{
+    const uint8_t *at = bytes;
+    while (length > 0) {
+        ssize_t written = write(file, at, length);
+        if (written > 0) {
+            at += written;
+            length -= (size_t)written;
+        } else if (written == 0 || errno != EINTR) {
+            errno = written == 0 ? EIO : errno;
+            return false;
+        }
+    }
+    return true;
 }
 
 void keep_apart(const char *written, const char *read)
@@ -79,47 +157,35 @@ void keep_apart(const char *written, const char *read)
         fail(written, "would be written over a file that is read");
 }
 
-uint8_t build_table(struct bytes rules, size_t reach, struct bytes *table)
+sigset_t hold_signals(void)
 {
-    uint64_t size = planner_table_size(rules.at, rules.length, reach);
-    *table = (struct bytes){NULL, 0};
-    if (planner_outcome(size) != PLANNER_OK)
-        return planner_outcome(size);
-    table->length = (size_t)planner_size(size);
-    table->at = allocate(table->length);
-    return planner_build_table(rules.at, rules.length, table->at, table->length, reach);
+    sigset_t held, before;
+    sigemptyset(&held);
+    for (size_t at = 0; at < ENDING_SIGNALS; at++) {
+        struct sigaction action;
+        if (sigaction(ending_signals[at], NULL, &action) != 0)
+            fail("signals", strerror(errno));
+        if (action.sa_handler != SIG_IGN)
+            sigaddset(&held, ending_signals[at]);
+    }
+    if (sigprocmask(SIG_BLOCK, &held, &before) != 0)
+        fail("signals", strerror(errno));
+    return before;
 }
 
-const char *outcome_words(uint8_t outcome, const char *success)
+bool signal_waits(void)
 {
-    static const char *const words[] = {
-        [PLANNER_BAD_FORM] = "rule file: a byte does not fit, the file ends early, or bytes are left over",
-        [PLANNER_OUTSIDE_LIMIT] = "rule file: a number outside its limit",
-        [PLANNER_MISPLACED_VARIABLE] = "rule file: a variable out of place",
-        [PLANNER_DUPLICATE_RULES] = "rule file: two rules with equal lines",
-        [PLANNER_BAD_REACH] = "the reach is not 1 to 3",
-        [PLANNER_BAD_TABLE_LENGTH] = "the table has not the length for these rules and this reach",
-        [PLANNER_INVALID_RULE_SET] = "the rule set is not valid",
-        [PLANNER_SHORT_TEXT_BUFFER] = "the text buffer is shorter than the file",
-        [PLANNER_BAD_START] = "the start has a wrong length or a value not below its size",
-        [PLANNER_BAD_GOAL] = "the goal has a wrong length or a value not below its size",
-        [PLANNER_TOO_MANY_MOVES] = "more than 32 moves",
-        [PLANNER_SHORT_PLAN_BUFFER] = "the plan buffer is shorter than the move bound",
-        [PLANNER_UNKNOWN_MOVE] = "a move that is no rule's number",
-        [PLANNER_TABLE_NOT_ACCEPTED] = "the table is not accepted",
-        [PLANNER_NO_PLAN] = "no plan within the bounds",
-        [PLANNER_STEP_LIMIT] = "more sequences to visit than the step limit",
-        [PLANNER_NOT_ADMITTED] = "no state admits the sequence",
-    };
-    if (outcome == PLANNER_OK)
-        return success;
-    return outcome < sizeof words / sizeof words[0] ? words[outcome] : "an outcome without a name";
+    sigset_t waiting;
+    bool found = false;
+    if (sigpending(&waiting) != 0)
+        return false;
+    for (size_t at = 0; at < ENDING_SIGNALS; at++)
+        found = found || sigismember(&waiting, ending_signals[at]) == 1;
+    return found;
 }
 
-int finish(uint8_t outcome)
+void release_signals(const sigset_t *before)
 {
-    bool failed = ferror(stdout) != 0;
-    if (fclose(stdout) != 0 || failed)
-        fail("standard output", "could not be written");
-    return outcome == PLANNER_OK ? STATUS_OK : STATUS_OUTCOME;
+    if (sigprocmask(SIG_SETMASK, before, NULL) != 0)
+        fail("signals", strerror(errno));
 }

@@ -1,11 +1,12 @@
-/* What both programs share: messages, numbers, files, outcomes in words, and the building of a table. */
+/* What both programs share: how they begin and end, messages, numbers, files. */
 #ifndef COMMON_H
 #define COMMON_H
 
+#include <signal.h>
+#include <stdbool.h>
 #include <stddef.h>
 #include <stdint.h>
-
-#include "planner.h"
+#include <stdio.h>
 
 /* Exit statuses. */
 enum status {
@@ -14,14 +15,19 @@ enum status {
     STATUS_FAILED = 2   /* a bad argument, or a file that could not be read or written: a message on standard error */
 };
 
-/* Allocated bytes. */
-struct bytes {
-    uint8_t *at;
-    size_t length;
-};
-
 /* The program's name in messages; each program defines it. */
 extern const char program[];
+
+/* To be called first: no file that is opened takes the place of a closed standard stream, and a file that grows beyond
+ * the system's limit is an error like any other, and not the end of the program. */
+void begin(void);
+
+/* Ends standard output and gives the exit status for an outcome; output that could not be written ends the program. */
+int finish(uint8_t outcome);
+
+/* A text that someone else wrote: at most this many bytes of it, and '..' if it is longer. A character that could end
+ * the line or steer a terminal, and what is no UTF-8, is shown as a question mark. */
+void put_text(FILE *out, const char *text, size_t most);
 
 /* A message on standard error. */
 void complain(const char *subject, const char *reason);
@@ -35,19 +41,30 @@ void *allocate(size_t size);
 /* The number that `text` writes in digits, base ten; anything else, or a number above `most`, ends the program. */
 uint64_t number(const char *subject, const char *text, uint64_t most);
 
-/* The whole file, or the end of the program. */
-struct bytes read_file(const char *path);
+/* Allocated bytes. */
+struct bytes {
+    uint8_t *at;
+    size_t length;
+    bool cut; /* these are the front of a file that goes on */
+};
+
+/* The file's first bytes, at most this many, so that a file without an end is read no further; or the end of the
+ * program. */
+struct bytes read_file(const char *path, size_t most);
+
+/* Writes all bytes, or says why not in errno. */
+bool write_all(int file, const void *bytes, size_t length);
 
 /* Ends the program if a file that is to be written is one that is read. */
 void keep_apart(const char *written, const char *read);
 
-/* The table of a rule file, and outcome 0; or the outcome for which there is none. */
-uint8_t build_table(struct bytes rules, size_t reach, struct bytes *table);
+/* Lets the signals that would end the program wait, save those that it was started to ignore; gives the mask before. */
+sigset_t hold_signals(void);
 
-/* An outcome in words; `success` for 0. */
-const char *outcome_words(uint8_t outcome, const char *success);
+/* Whether one of them came. */
+bool signal_waits(void);
 
-/* Ends standard output and gives the exit status for an outcome; output that could not be written ends the program. */
-int finish(uint8_t outcome);
+/* Lets them come again: one that waited ends the program, with its status. */
+void release_signals(const sigset_t *before);
 
 #endif

@@ -1,4 +1,5 @@
-/* Searches for the cheapest plan and shows it, one move a line; on request appends the answer to a log. Each answer is shown whole and from this search alone. */
+/* Searches for the cheapest plan and shows it, one move a line; on request appends the answer to a log. Each answer is
+ * shown whole and from this search alone. */
 #include <errno.h>
 #include <inttypes.h>
 #include <stdbool.h>
@@ -8,52 +9,49 @@
 #include <time.h>
 
 #include "common.h"
+#include "log.h"
+#include "options.h"
+#include "planner.h"
+#include "query.h"
 
 const char program[] = "plan";
 
-/* The most moves that the planner takes: with more it gives outcome 11 and looks at no plan buffer. */
-enum { MOST_MOVES = 32 };
-
 enum { DEFAULT_REACH = 2, DEFAULT_MOVES = 10, DEFAULT_COST = UINT16_MAX, DEFAULT_STEPS = 100000000 };
 
-/* A query as it was typed, and where to log it: NULL for nowhere. */
-struct query {
+/* A query with the names of its files, and where to log it: NULL for nowhere. */
+struct request {
     const char *rules;
     const char *table;
-    struct bytes start;
-    struct bytes goal;
-    size_t reach;
-    size_t max_moves;
-    uint16_t max_cost;
-    uint32_t step_limit;
     const char *log;
+    struct query query;
 };
 
-static void show_usage(FILE *out)
-{
-    fprintf(out,
-            "usage: plan RULES TABLE START GOAL [--reach N] [--moves N] [--cost N] [--steps N] [--log FILE]\n"
-            "Shows the cheapest plan from START to GOAL: cost, length, steps and the rule numbers, one a line.\n"
-            "  RULES       a rule file\n"
-            "  TABLE       its pruning table, a file; or the word build, to build it (a file of that name: ./build)\n"
-            "  START       a value for each position, a comma list\n"
-            "  GOAL        likewise; any or * for any value\n"
-            "  --reach N   the reach of the table, 1 to 3; default %d\n"
-            "  --moves N   the most moves, 0 to 32; default %d\n"
-            "  --cost N    the most cost, 0 to %" PRIu16 "; default %d\n"
-            "  --steps N   the step limit: the most sequences to visit, 0 to %" PRIu32 "; default %d\n"
-            "  --log FILE  append the answer and the rule file to FILE\n"
-            "Numbers are in base ten. Of an option given twice the last counts.\n"
-            "Exit status: 0 a plan, 1 another outcome, 2 a bad argument or a file that could not be read or written.\n",
-            DEFAULT_REACH, DEFAULT_MOVES, UINT16_MAX, DEFAULT_COST, UINT32_MAX, DEFAULT_STEPS);
-}
+/* The answer of a search and its plan. */
+struct result {
+    uint64_t answer;
+    uint8_t plan[PLANNER_MAX_MOVES];
+};
 
-/* Bad arguments: what is wrong, the usage, and the end of the program. */
-static _Noreturn void fail_with_usage(const char *subject, const char *reason)
+static void show_help(void)
 {
-    complain(subject, reason);
-    show_usage(stderr);
-    exit(STATUS_FAILED);
+    printf("usage: plan RULES TABLE START GOAL [--reach N] [--moves N] [--cost N] [--steps N] [--log FILE]\n"
+           "Shows the cheapest plan from START to GOAL: cost, length, steps and the rule numbers, one a line.\n"
+           "  RULES       a rule file, of at most %d bytes; of a longer file the first %d are judged\n"
+           "  TABLE       its pruning table, a file; or the word build, to build it (a file of that name: ./build)\n"
+           "  START       a value for each position, a comma list\n"
+           "  GOAL        likewise; any or * for any value\n"
+           "  --reach N   the reach of the table, 1 to %d; default %d\n"
+           "  --moves N   the most moves, 0 to %d; default %d\n"
+           "  --cost N    the most cost, 0 to %d; default %d\n"
+           "  --steps N   the step limit: the most sequences to visit, 0 to %" PRIu32 "; default %d\n"
+           "  --log FILE  append the answer and the rule file to FILE, under a lock, whole or not at all\n"
+           "  --help      show this and do nothing else\n"
+           "  --version   show the version and do nothing else\n",
+           PLANNER_MAX_FILE, MOST_OF_RULES, PLANNER_MAX_REACH, DEFAULT_REACH, PLANNER_MAX_MOVES, DEFAULT_MOVES,
+           UINT16_MAX, DEFAULT_COST, UINT32_MAX, DEFAULT_STEPS);
+    printf("Options may stand anywhere and be written --moves=12; -- ends them. Numbers are in base ten.\n"
+           "Of an option given twice the last counts.\n"
+           "Exit status: 0 a plan, 1 another outcome, 2 a bad argument or a file that could not be read or written.\n");
 }
 
 /* One value of a list. */
@@ -68,7 +66,7 @@ static uint8_t value_of(const char *subject, const char *item, bool any_allowed)
 static struct bytes values_of(const char *subject, const char *text, bool any_allowed)
 {
     size_t size = strlen(text) + 1;
-    struct bytes values = {allocate(size), 0};
+    struct bytes values = {.at = allocate(size)};
     char *items = allocate(size);
     memcpy(items, text, size);
     for (char *item = items; item != NULL;) {
@@ -82,96 +80,89 @@ static struct bytes values_of(const char *subject, const char *text, bool any_al
     return values;
 }
 
-/* The value of an option, which is NULL if there is none. */
-static const char *needed(const char *option, const char *value)
+/* The number of an option, or the one that it has when it is not given. */
+static uint64_t number_of(struct option option, uint64_t most, uint64_t otherwise)
 {
-    if (value == NULL)
-        fail_with_usage(option, "needs a value");
-    return value;
-}
-
-/* Takes one option into the query. */
-static void take_option(struct query *query, const char *option, const char *value)
-{
-    if (strcmp(option, "--reach") == 0)
-        query->reach = (size_t)number(option, needed(option, value), SIZE_MAX);
-    else if (strcmp(option, "--moves") == 0)
-        query->max_moves = (size_t)number(option, needed(option, value), SIZE_MAX);
-    else if (strcmp(option, "--cost") == 0)
-        query->max_cost = (uint16_t)number(option, needed(option, value), UINT16_MAX);
-    else if (strcmp(option, "--steps") == 0)
-        query->step_limit = (uint32_t)number(option, needed(option, value), UINT32_MAX);
-    else if (strcmp(option, "--log") == 0)
-        query->log = needed(option, value);
-    else
-        fail_with_usage(option, "no such option");
+    return option.value == NULL ? otherwise : number(option.name, option.value, most);
 }
 
 /* Whether the table is to be built, and not read from a file. */
-static bool builds_table(const struct query *query)
+static bool builds_table(const struct request *request)
 {
-    return strcmp(query->table, "build") == 0;
+    return strcmp(request->table, "build") == 0;
 }
 
-/* The query of the command line, with every number as it was typed. */
-static struct query query_of(int count, char **arguments)
+/* The request of the command line, with every number as it was typed. */
+static struct request read_request(int count, char **arguments)
 {
-    struct query query = {.reach = DEFAULT_REACH, .max_moves = DEFAULT_MOVES, .max_cost = DEFAULT_COST, .step_limit = DEFAULT_STEPS};
-    if (count < 5)
-        fail_with_usage("arguments", "RULES, TABLE, START and GOAL are needed");
-    for (int at = 5; at < count; at += 2)
-        take_option(&query, arguments[at], arguments[at + 1]);
-    query.rules = arguments[1];
-    query.table = arguments[2];
-    query.start = values_of("START", arguments[3], false);
-    query.goal = values_of("GOAL", arguments[4], true);
-    if (query.log != NULL)
-        keep_apart(query.log, query.rules);
-    if (query.log != NULL && !builds_table(&query))
-        keep_apart(query.log, query.table);
-    return query;
+    enum { REACH, MOVES, COST, STEPS, LOG, OPTIONS };
+    struct option options[OPTIONS + 1] = {
+        [REACH] = {"--reach", NULL}, [MOVES] = {"--moves", NULL}, [COST] = {"--cost", NULL},
+        [STEPS] = {"--steps", NULL}, [LOG] = {"--log", NULL},
+    };
+    enum { RULES, TABLE, START, GOAL, OPERANDS };
+    const char *operands[OPERANDS];
+    struct syntax syntax = {show_help, "RULES, TABLE, START and GOAL are needed", OPERANDS, options};
+    read_arguments(count, arguments, &syntax, operands);
+    struct request request = {.rules = operands[RULES], .table = operands[TABLE], .log = options[LOG].value};
+    request.query.reach = (size_t)number_of(options[REACH], SIZE_MAX, DEFAULT_REACH);
+    request.query.max_moves = (size_t)number_of(options[MOVES], SIZE_MAX, DEFAULT_MOVES);
+    request.query.max_cost = (uint16_t)number_of(options[COST], UINT16_MAX, DEFAULT_COST);
+    request.query.step_limit = (uint32_t)number_of(options[STEPS], UINT32_MAX, DEFAULT_STEPS);
+    request.query.start = values_of("START", operands[START], false);
+    request.query.goal = values_of("GOAL", operands[GOAL], true);
+    return request;
 }
 
-/* The answer to a query. A table that cannot be built has the outcome that a search would have, with no cost, length or steps. */
-static uint64_t answer_to(const struct query *query, struct bytes rules, uint8_t plan[MOST_MOVES])
+/* Reads the files of a request; a table to build gives the outcome of that. */
+static uint8_t read_files(struct request *request)
 {
-    struct bytes table;
-    uint8_t built = PLANNER_OK;
-    if (builds_table(query))
-        built = build_table(rules, query->reach, &table);
-    else
-        table = read_file(query->table);
-    uint64_t answer = built;
-    if (built == PLANNER_OK)
-        answer = planner_search(rules.at, rules.length, table.at, table.length, query->start.at, query->start.length, query->goal.at, query->goal.length,
-                                plan, MOST_MOVES, query->reach, query->max_moves, query->max_cost, query->step_limit);
-    free(table.at);
-    return answer;
+    if (request->log != NULL)
+        keep_apart(request->log, request->rules);
+    if (request->log != NULL && !builds_table(request))
+        keep_apart(request->log, request->table);
+    request->query.rules = read_file(request->rules, MOST_OF_RULES);
+    if (builds_table(request))
+        return build_table(&request->query);
+    request->query.table = read_file(request->table, MOST_OF_TABLE);
+    return PLANNER_OK;
 }
 
-/* The outcome in words. */
-static const char *words_of(uint64_t answer)
+/* The planner's answer to a query. */
+static struct result search(const struct query *query)
 {
-    return outcome_words(planner_outcome(answer), "plan found");
+    struct result result;
+    result.answer = planner_search(query->rules.at, query->rules.length, query->table.at, query->table.length,
+                                   query->start.at, query->start.length, query->goal.at, query->goal.length,
+                                   result.plan, sizeof result.plan, query->reach, query->max_moves, query->max_cost,
+                                   query->step_limit);
+    return result;
+}
+
+/* The outcome of an answer in words. */
+static void put_answer_words(FILE *out, const struct query *query, uint64_t answer)
+{
+    put_words(out, planner_outcome(answer), "plan found", query);
 }
 
 /* Shows an answer: the plan of outcome 0, and of every other outcome nothing but the outcome and the steps. */
-static void show_answer(uint64_t answer, const uint8_t *plan)
+static void show_result(const struct query *query, const struct result *result)
 {
-    printf("outcome %u: %s\n", planner_outcome(answer), words_of(answer));
+    uint64_t answer = result->answer;
+    printf("outcome %u: ", planner_outcome(answer));
+    put_answer_words(stdout, query, answer);
     if (planner_outcome(answer) == PLANNER_OK)
-        printf("cost %u\nlength %u\n", planner_cost(answer), planner_length(answer));
-    printf("steps %" PRIu32 "\n", planner_steps(answer));
+        printf("\ncost %u\nlength %u", planner_cost(answer), planner_length(answer));
+    printf("\nsteps %" PRIu32 "\n", planner_steps(answer));
     for (size_t at = 0; at < planner_length(answer); at++)
-        printf("rule %u\n", plan[at]);
+        printf("rule %u\n", result->plan[at]);
 }
 
-/* A line of the log with a name; a byte that could end the line is written as a question mark. */
+/* A line of the log with the name of a file. */
 static void put_name(FILE *out, const char *key, const char *name)
 {
     fprintf(out, "%s=", key);
-    for (; *name != '\0'; name++)
-        fputc((unsigned char)*name < ' ' ? '?' : *name, out);
+    put_text(out, name, SIZE_MAX);
     fputc('\n', out);
 }
 
@@ -190,77 +181,70 @@ static void put_time(FILE *out)
     char text[64] = "";
     time_t now = time(NULL);
     struct tm *utc = now == (time_t)-1 ? NULL : gmtime(&now);
-    if (utc != NULL)
-        strftime(text, sizeof text, "%Y-%m-%dT%H:%M:%SZ", utc);
+    if (utc == NULL || strftime(text, sizeof text, "%Y-%m-%dT%H:%M:%SZ", utc) == 0)
+        text[0] = '\0';
     fprintf(out, "time=%s\n", text);
 }
 
-/* An entry of the log: lines, then the rule file, as long as the last line says, and a line feed. */
-static void put_entry(FILE *out, const struct query *query, struct bytes rules, uint64_t answer, const uint8_t *plan)
+/* An entry of the log: lines, then as much of the rule file as was read, which is as long as the last line says. */
+static void put_entry(FILE *out, const struct request *request, const struct result *result)
 {
+    const struct query *query = &request->query;
+    uint64_t answer = result->answer;
     put_time(out);
-    put_name(out, "rules", query->rules);
-    put_name(out, "table", query->table);
+    put_name(out, "rules", request->rules);
+    put_name(out, "table", request->table);
     put_list(out, "start", query->start.at, query->start.length);
     put_list(out, "goal", query->goal.at, query->goal.length);
-    fprintf(out, "reach=%zu\nmax_moves=%zu\nmax_cost=%u\nstep_limit=%" PRIu32 "\n", query->reach, query->max_moves, query->max_cost, query->step_limit);
-    fprintf(out, "outcome=%u\nwords=%s\n", planner_outcome(answer), words_of(answer));
-    fprintf(out, "cost=%u\nlength=%u\nsteps=%" PRIu32 "\n", planner_cost(answer), planner_length(answer), planner_steps(answer));
-    put_list(out, "plan", plan, planner_length(answer));
-    fprintf(out, "rule_bytes=%zu\n", rules.length);
-    fwrite(rules.at, 1, rules.length, out);
-    fputc('\n', out);
-}
-
-/* Appends bytes to a file in one piece, so that entries of two programs do not mix; says whether all are written. */
-static bool append(const char *path, const char *bytes, size_t length)
-{
-    FILE *file = fopen(path, "ab");
-    if (file == NULL)
-        return false;
-    setvbuf(file, NULL, _IONBF, 0);
-    bool written = fwrite(bytes, 1, length, file) == length;
-    int error = errno;
-    bool closed = fclose(file) == 0;
-    if (!written)
-        errno = error;
-    return written && closed;
+    fprintf(out, "reach=%zu\nmax_moves=%zu\nmax_cost=%u\n", query->reach, query->max_moves, query->max_cost);
+    fprintf(out, "step_limit=%" PRIu32 "\n", query->step_limit);
+    fprintf(out, "outcome=%u\nwords=", planner_outcome(answer));
+    put_answer_words(out, query, answer);
+    fprintf(out, "\ncost=%u\nlength=%u\n", planner_cost(answer), planner_length(answer));
+    fprintf(out, "steps=%" PRIu32 "\n", planner_steps(answer));
+    put_list(out, "plan", result->plan, planner_length(answer));
+    fprintf(out, "rule_file=%s\nrule_bytes=%zu\n", query->rules.cut ? "cut" : "whole", query->rules.length);
+    fwrite(query->rules.at, 1, query->rules.length, out);
+    fputs(LOG_END, out);
 }
 
 /* Appends an answer to the log, or says why it could not be done. */
-static bool log_answer(const struct query *query, struct bytes rules, uint64_t answer, const uint8_t *plan)
+static bool log_result(const struct request *request, const struct result *result)
 {
     char *entry = NULL;
     size_t length = 0;
     FILE *out = open_memstream(&entry, &length);
     if (out == NULL)
         fail("memory", strerror(errno));
-    put_entry(out, query, rules, answer, plan);
-    bool composed = !ferror(out);
-    composed = fclose(out) == 0 && composed;
-    bool logged = composed && append(query->log, entry, length);
-    if (!logged)
-        complain(query->log, composed ? strerror(errno) : strerror(ENOMEM));
+    put_entry(out, request, result);
+    bool failed = ferror(out) != 0;
+    if (fclose(out) != 0 || failed)
+        fail("memory", strerror(ENOMEM));
+    bool logged = append_entry(request->log, entry, length);
     free(entry);
     return logged;
 }
 
+/* Frees what a request has read. */
+static void discard(struct query *query)
+{
+    free(query->rules.at);
+    free(query->table.at);
+    free(query->start.at);
+    free(query->goal.at);
+}
+
 int main(int count, char **arguments)
 {
-    if (count == 2 && strcmp(arguments[1], "--help") == 0) {
-        show_usage(stdout);
-        return finish(PLANNER_OK);
-    }
-    struct query query = query_of(count, arguments);
-    struct bytes rules = read_file(query.rules);
-    uint8_t plan[MOST_MOVES];
-    memset(plan, PLANNER_ANY, sizeof plan);
-    uint64_t answer = answer_to(&query, rules, plan);
-    bool logged = query.log == NULL || log_answer(&query, rules, answer, plan);
-    show_answer(answer, plan);
-    int status = finish(planner_outcome(answer));
-    free(rules.at);
-    free(query.start.at);
-    free(query.goal.at);
+    begin();
+    struct request request = read_request(count, arguments);
+    /* a table that cannot be built has the outcome that a search would have, with no cost, length or steps */
+    struct result result = {.answer = read_files(&request)};
+    if (result.answer == PLANNER_OK)
+        result = search(&request.query);
+    bool logged = request.log == NULL || log_result(&request, &result);
+    show_result(&request.query, &result);
+    int status = finish(planner_outcome(result.answer));
+    discard(&request.query);
     return logged ? status : STATUS_FAILED;
 }

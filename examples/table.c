@@ -1,6 +1,5 @@
 /* Writes the pruning table of a rule file to a file, or checks one. */
 #include <errno.h>
-#include <inttypes.h>
 #include <stdbool.h>
 #include <stdio.h>
 #include <stdlib.h>
@@ -9,106 +8,143 @@
 #include <unistd.h>
 
 #include "common.h"
+#include "options.h"
+#include "planner.h"
+#include "query.h"
 
 const char program[] = "table";
 
-static void show_usage(FILE *out)
+static void show_help(void)
 {
-    fputs("usage: table build RULES REACH TABLE\n"
-          "       table check RULES REACH TABLE\n"
-          "build writes the pruning table of a rule file to the file TABLE, which stays as it was unless all went well;\n"
-          "check says whether the table in the file TABLE is accepted. REACH is 1 to 3, in base ten.\n"
-          "Exit status: 0 built or accepted, 1 another outcome, 2 a bad argument or a file that could not be read or written.\n",
-          out);
+    printf("usage: table build RULES REACH TABLE\n"
+           "       table check RULES REACH TABLE\n"
+           "build writes the pruning table of a rule file to the file TABLE, which stays as it was unless all\n"
+           "went well; check says whether the table in the file TABLE is accepted.\n"
+           "  RULES      a rule file, of at most %d bytes; of a longer file the first %d are judged\n"
+           "  REACH      1 to %d, in base ten\n"
+           "  TABLE      a file; a table has at most %d bytes, and a longer file is not read to its end\n"
+           "  --help     show this and do nothing else\n"
+           "  --version  show the version and do nothing else\n",
+           PLANNER_MAX_FILE, MOST_OF_RULES, PLANNER_MAX_REACH, PLANNER_MAX_TABLE);
+    printf("A new table is written beside TABLE under a name of its own, then takes its place and keeps its mode.\n"
+           "build refuses a symbolic link: the table would replace the link, and not the file behind it.\n"
+           "An operand that begins with a dash comes after --.\n"
+           "Exit status: 0 built or accepted, 1 another outcome, 2 a bad argument or a file that could not be\n"
+           "read or written.\n");
 }
 
 /* Shows an outcome and gives the exit status for it. */
-static int show_outcome(uint8_t outcome, const char *success)
+static int show_outcome(uint8_t outcome, const char *success, const struct query *query)
 {
-    printf("outcome %u: %s\n", outcome, outcome_words(outcome, success));
+    printf("outcome %u: ", outcome);
+    put_words(stdout, outcome, success, query);
+    printf("\n");
     return finish(outcome);
 }
 
-/* The name of a file beside another. */
+/* The pattern of names for a new file beside another. */
 static char *name_beside(const char *path)
 {
-    size_t size = strlen(path) + 32;
-    char *name = allocate(size);
-    snprintf(name, size, "%s.%ld.tmp", path, (long)getpid());
+    static const char pattern[] = ".XXXXXX";
+    size_t length = strlen(path);
+    char *name = allocate(length + sizeof pattern);
+    memcpy(name, path, length);
+    memcpy(name + length, pattern, sizeof pattern);
     return name;
 }
 
-/* Removes a file that came to nothing, and ends the program. */
-static _Noreturn void abandon(const char *name, const char *path)
+/* Gives a new file the mode of the one that it replaces, and its owner where the system lets it; for NULL the mode that
+ * any new file has. */
+static bool set_mode(int file, const struct stat *old)
 {
-    int error = errno;
-    remove(name);
-    fail(path, strerror(error));
+    if (old == NULL) {
+        mode_t mask = umask(0);
+        umask(mask);
+        return fchmod(file, 0666 & ~mask) == 0;
+    }
+    if (fchown(file, old->st_uid, old->st_gid) != 0 && errno != EPERM)
+        return false;
+    return fchmod(file, old->st_mode & 0777) == 0;
 }
 
-/* Writes all bytes to a file and closes it; says whether they are on the disk. */
-static bool write_and_close(FILE *file, struct bytes bytes)
+/* Writes a new file and closes it; says whether all of it is on the disk. */
+static bool write_and_close(int file, struct bytes bytes, const struct stat *old)
 {
-    bool written = fwrite(bytes.at, 1, bytes.length, file) == bytes.length && fflush(file) == 0 && fsync(fileno(file)) == 0;
+    bool written = write_all(file, bytes.at, bytes.length) && set_mode(file, old) && fsync(file) == 0;
     int error = errno;
-    bool closed = fclose(file) == 0;
+    bool closed = close(file) == 0;
     if (!written)
         errno = error;
     return written && closed;
 }
 
-/* Puts bytes in place of a file, all or nothing: under another name first. Only a regular file is replaced. */
+/* Removes a file that came to nothing, and ends the program: with the signal that waits, or with a message. */
+static _Noreturn void abandon(const char *name, const char *path, const sigset_t *before)
+{
+    int error = errno;
+    if (remove(name) != 0)
+        complain(name, "could not be removed");
+    release_signals(before);
+    fail(path, strerror(error));
+}
+
+/* Puts bytes in place of a file, all or nothing: under a name of this run's own first. Only a regular file is replaced.
+ * A signal that would end the program waits meanwhile, so that it leaves nothing behind. */
 static void replace_file(const char *path, struct bytes bytes)
 {
     struct stat old;
-    if (lstat(path, &old) == 0 && !S_ISREG(old.st_mode))
+    bool exists = lstat(path, &old) == 0;
+    if (exists && S_ISLNK(old.st_mode))
+        fail(path, "a symbolic link, which the table would replace: name the file behind it");
+    if (exists && !S_ISREG(old.st_mode))
         fail(path, "not a regular file");
     char *name = name_beside(path);
-    FILE *file = fopen(name, "wbx");
-    if (file == NULL)
-        fail(name, strerror(errno));
-    if (!write_and_close(file, bytes) || rename(name, path) != 0)
-        abandon(name, path);
+    sigset_t before = hold_signals();
+    int file = mkstemp(name);
+    if (file < 0)
+        fail(path, strerror(errno));
+    if (!write_and_close(file, bytes, exists ? &old : NULL) || signal_waits() || rename(name, path) != 0)
+        abandon(name, path, &before);
+    release_signals(&before);
     free(name);
 }
 
 /* Builds the table, and writes it unless it is refused. */
-static int build(struct bytes rules, size_t reach, const char *path)
+static int build(struct query *query, const char *path)
 {
-    struct bytes table;
-    uint8_t outcome = build_table(rules, reach, &table);
+    uint8_t outcome = build_table(query);
     if (outcome == PLANNER_OK)
-        replace_file(path, table);
-    free(table.at);
-    return show_outcome(outcome, "table built");
+        replace_file(path, query->table);
+    return show_outcome(outcome, "table built", query);
 }
 
 /* Checks the table in a file. */
-static int check(struct bytes rules, size_t reach, const char *path)
+static int check(struct query *query, const char *path)
 {
-    struct bytes table = read_file(path);
-    uint8_t outcome = planner_check_table(rules.at, rules.length, table.at, table.length, reach);
-    free(table.at);
-    return show_outcome(outcome, "table accepted");
+    query->table = read_file(path, MOST_OF_TABLE);
+    uint8_t outcome = planner_check_table(query->rules.at, query->rules.length, query->table.at, query->table.length,
+                                          query->reach);
+    return show_outcome(outcome, "table accepted", query);
 }
 
 int main(int count, char **arguments)
 {
-    if (count == 2 && strcmp(arguments[1], "--help") == 0) {
-        show_usage(stdout);
-        return finish(PLANNER_OK);
-    }
-    bool builds = count == 5 && strcmp(arguments[1], "build") == 0;
-    if (!builds && !(count == 5 && strcmp(arguments[1], "check") == 0)) {
-        complain("arguments", "build or check, RULES, REACH and TABLE are needed");
-        show_usage(stderr);
-        return STATUS_FAILED;
-    }
-    size_t reach = (size_t)number("REACH", arguments[3], SIZE_MAX);
+    static const char needed[] = "build or check, RULES, REACH and TABLE are needed";
+    enum { COMMAND, RULES, REACH, TABLE, OPERANDS };
+    const char *operands[OPERANDS];
+    struct option options[] = {{NULL, NULL}};
+    struct syntax syntax = {show_help, needed, OPERANDS, options};
+    begin();
+    read_arguments(count, arguments, &syntax, operands);
+    bool builds = strcmp(operands[COMMAND], "build") == 0;
+    if (!builds && strcmp(operands[COMMAND], "check") != 0)
+        fail_with_hint("arguments", needed);
+    struct query query = {.reach = (size_t)number("REACH", operands[REACH], SIZE_MAX)};
     if (builds)
-        keep_apart(arguments[4], arguments[2]);
-    struct bytes rules = read_file(arguments[2]);
-    int status = builds ? build(rules, reach, arguments[4]) : check(rules, reach, arguments[4]);
-    free(rules.at);
+        keep_apart(operands[TABLE], operands[RULES]);
+    query.rules = read_file(operands[RULES], MOST_OF_RULES);
+    int status = builds ? build(&query, operands[TABLE]) : check(&query, operands[TABLE]);
+    free(query.rules.at);
+    free(query.table.at);
     return status;
 }

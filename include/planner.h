@@ -1,12 +1,15 @@
 /* The planner's C entries, in the static library libplanner.a (rt staticlib planner).
  *
- * Every byte argument is a pointer and then its length in bytes. What a caller owes, and nothing can check:
+ * Every byte argument is a pointer and then its length in bytes. What a caller owes to every entry, and nothing can
+ * check:
  * - each pointer is to as many bytes as its length says; NULL only with length 0; a length of at most PTRDIFF_MAX;
- * - a buffer that is written (plan, table of a build, out) overlaps no other argument. Buffers that are only read may overlap each other, and never change;
+ * - a buffer that is written (plan, table of a build, out) overlaps no other argument. Buffers that are only read may
+ *   overlap each other, and never change;
  * - during the call no other thread writes any of the buffers, nor reads one that is written;
  * - PLANNER_STACK bytes of stack.
- * Nothing else is asked: any bytes, lengths and numbers end in an answer or in one numbered refusal. But C cuts a number down to its parameter's type before the call: a max_cost of 65545
- * arrives as 9, and is answered as 9. Nothing is kept between calls: threads may call at the same time, each with its own buffers to write. */
+ * Nothing else is asked: any bytes, lengths and numbers end in an answer or in one numbered refusal. But C cuts a
+ * number down to its parameter's type before the call: a max_cost of 65545 arrives as 9, and is answered as 9.
+ * Nothing is kept between calls: threads may call at the same time, each with its own buffers to write. */
 #ifndef PLANNER_H
 #define PLANNER_H
 
@@ -17,8 +20,29 @@
 extern "C" {
 #endif
 
+/* The version of this header and of the library that it declares. The first number is raised when an entry changes,
+ * the second when something is added. */
+#define PLANNER_VERSION_MAJOR 1
+#define PLANNER_VERSION_MINOR 0
+#define PLANNER_VERSION "1.0"
+
 /* What a call needs of the stack, in bytes. */
 #define PLANNER_STACK 262144
+
+/* The most positions of a rule file. */
+#define PLANNER_MAX_POSITIONS 16
+
+/* The longest rule file, in bytes. Of a longer text the first PLANNER_MAX_FILE + 1 bytes have its outcome. */
+#define PLANNER_MAX_FILE 4292
+
+/* The largest reach. */
+#define PLANNER_MAX_REACH 3
+
+/* The longest table, in bytes: 31 rules, reach 3. */
+#define PLANNER_MAX_TABLE 61568
+
+/* The most moves of a query: a plan buffer of this size is long enough for every query that is not refused. */
+#define PLANNER_MAX_MOVES 32
 
 /* Outcomes. Each call gives the first whose cause holds, in the order given with it. */
 enum planner_outcome {
@@ -27,13 +51,13 @@ enum planner_outcome {
     PLANNER_OUTSIDE_LIMIT = 2,       /* rule file: a well-formed number outside its limit */
     PLANNER_MISPLACED_VARIABLE = 3,  /* rule file: a variable out of place */
     PLANNER_DUPLICATE_RULES = 4,     /* rule file: two rules with equal lines */
-    PLANNER_BAD_REACH = 5,           /* the reach is not 1 to 3 */
+    PLANNER_BAD_REACH = 5,           /* the reach is not 1 to PLANNER_MAX_REACH */
     PLANNER_BAD_TABLE_LENGTH = 6,    /* the table's length is not planner_table_size's */
     PLANNER_INVALID_RULE_SET = 7,    /* no entry gives it: a set that was read is valid */
     PLANNER_SHORT_TEXT_BUFFER = 8,   /* the text buffer is shorter than the file */
     PLANNER_BAD_START = 9,           /* the start has a wrong length or a value not below its size */
-    PLANNER_BAD_GOAL = 10,           /* the goal likewise, save 255 */
-    PLANNER_TOO_MANY_MOVES = 11,     /* more than 32 moves */
+    PLANNER_BAD_GOAL = 10,           /* the goal likewise, save PLANNER_ANY */
+    PLANNER_TOO_MANY_MOVES = 11,     /* more than PLANNER_MAX_MOVES moves */
     PLANNER_SHORT_PLAN_BUFFER = 12,  /* the plan buffer is shorter than the move bound */
     PLANNER_UNKNOWN_MOVE = 13,       /* a move that is no rule's number */
     PLANNER_TABLE_NOT_ACCEPTED = 14, /* a mark of the table is not justified */
@@ -45,39 +69,60 @@ enum planner_outcome {
 /* Any value, in a goal. Also every byte of a plan buffer that holds no move. */
 #define PLANNER_ANY 255
 
-/* An entry of a table: two bytes, low byte first. This one keeps its sequence; another marks it and is its witness's index. */
+/* An entry of a table: two bytes, low byte first. This one keeps its sequence; another marks it and is its witness's
+ * index. */
 #define PLANNER_KEPT 65535
 
-/* The bytes of a macro: condition 16, effect 16, cost 2, low byte first. An entry below 16 is that constant; 16 + k is the variable of position k + 1. */
+/* The bytes of a macro: condition 16, effect 16, cost 2, low byte first. An entry below 16 is that constant; 16 + k is
+ * the variable of position k + 1. */
 #define PLANNER_MACRO_SIZE 34
 
-/* Searches for the cheapest plan from the start to the goal. Outcomes, in this order: 1 to 4, 5, 6, 9, 10, 11, 12, 14, 16, 15, 0.
- * start and goal have one byte for each position; 255 in the goal means any value.
- * With outcome 0 the plan's rule numbers, from 1, stand at the front of plan, one byte each, and every other byte of it is 255; with any other outcome every byte is 255.
- * The answer packs outcome, length, cost and steps: see the four functions below. Cost and length are 0 without a plan; the steps are the number of sequences visited for 0 and 15, the
+/* Searches for the cheapest plan from the start to the goal.
+ * Takes a rule file; its table for this reach, built or from anywhere; a start and a goal with one byte for each
+ * position, PLANNER_ANY in the goal for any value; a plan buffer of at least max_moves bytes; the bounds on moves and
+ * cost, and the most sequences to visit.
+ * Outcomes, in this order: 1 to 4, 5, 6, 9, 10, 11, 12, 14, 16, 15, 0.
+ * With outcome 0 the plan's rule numbers, from 1, stand at the front of plan, one byte each, and every other byte of it
+ * is PLANNER_ANY; with any other outcome every byte is PLANNER_ANY.
+ * The answer packs outcome, length, cost and steps: planner_outcome, planner_length, planner_cost and planner_steps
+ * take it apart. Cost and length are 0 without a plan; the steps are the number of sequences visited for 0 and 15, the
  * step limit for 16, else 0. */
-uint64_t planner_search(const uint8_t *rules, size_t rules_length, const uint8_t *table, size_t table_length, const uint8_t *start, size_t start_length,
-                        const uint8_t *goal, size_t goal_length, uint8_t *plan, size_t plan_length, size_t reach, size_t max_moves, uint16_t max_cost,
+uint64_t planner_search(const uint8_t *rules, size_t rules_length, const uint8_t *table, size_t table_length,
+                        const uint8_t *start, size_t start_length, const uint8_t *goal, size_t goal_length,
+                        uint8_t *plan, size_t plan_length, size_t reach, size_t max_moves, uint16_t max_cost,
                         uint32_t step_limit);
 
-/* Judges a rule file: 1 to 4, or 0. */
+/* Judges a rule file, a text of any bytes and length. Outcomes: 1 to 4, 0. Writes nothing. */
 uint8_t planner_read(const uint8_t *text, size_t text_length);
 
-/* Reads a rule file and writes it again. Outcomes: 1 to 4, 8, 0. With outcome 0 out holds the file and zeros after it, else zeros.
+/* Reads a rule file and writes it again.
+ * Takes the text, and a buffer that is long enough for every file with PLANNER_MAX_FILE bytes.
+ * Outcomes, in this order: 1 to 4, 8, 0. With outcome 0 out holds the file and zeros after it, else zeros.
  * planner_outcome and planner_size take the answer apart; the size is the file's length in bytes, 0 when refused. */
 uint64_t planner_rewrite(const uint8_t *text, size_t text_length, uint8_t *out, size_t out_length);
 
-/* How long a table is. Outcomes: 1 to 4, 5, 0. planner_outcome and planner_size take the answer apart; the size is in bytes, 0 when refused, at most 61,568. */
+/* How long the table of a rule file is for this reach. Outcomes, in this order: 1 to 4, 5, 0. Writes nothing.
+ * planner_outcome and planner_size take the answer apart; the size is in bytes, 0 when refused, at most
+ * PLANNER_MAX_TABLE. */
 uint64_t planner_table_size(const uint8_t *rules, size_t rules_length, size_t reach);
 
-/* Builds the pruning table. Outcomes: 1 to 4, 5, 6, 0. When refused, the table is zeros. */
-uint8_t planner_build_table(const uint8_t *rules, size_t rules_length, uint8_t *table, size_t table_length, size_t reach);
+/* Builds the pruning table of a rule file for this reach.
+ * Takes a buffer for the table, of exactly the bytes that planner_table_size says.
+ * Outcomes, in this order: 1 to 4, 5, 6, 0. With outcome 0 the buffer holds the table, which is accepted, else
+ * zeros. */
+uint8_t planner_build_table(const uint8_t *rules, size_t rules_length, uint8_t *table, size_t table_length,
+                            size_t reach);
 
-/* Checks a table, whoever made it. Outcomes: 1 to 4, 5, 6, 14, 0. */
-uint8_t planner_check_table(const uint8_t *rules, size_t rules_length, const uint8_t *table, size_t table_length, size_t reach);
+/* Checks a table for a rule file and this reach, whoever made it: 0 exactly if each of its marks is justified.
+ * Outcomes, in this order: 1 to 4, 5, 6, 14, 0. Writes nothing. */
+uint8_t planner_check_table(const uint8_t *rules, size_t rules_length, const uint8_t *table, size_t table_length,
+                            size_t reach);
 
-/* The macro of a sequence of rule numbers. Outcomes: 1 to 4, 11, 13, 17, 0. out gets its PLANNER_MACRO_SIZE bytes, as many as it has room for, and zeros after them; zeros when refused. */
-uint8_t planner_macro(const uint8_t *rules, size_t rules_length, const uint8_t *moves, size_t moves_length, uint8_t *out, size_t out_length);
+/* The macro of a sequence of at most PLANNER_MAX_MOVES rule numbers, from 1, one byte each.
+ * Outcomes, in this order: 1 to 4, 11, 13, 17, 0.
+ * out gets its PLANNER_MACRO_SIZE bytes, as many as it has room for, and zeros after them; zeros when refused. */
+uint8_t planner_macro(const uint8_t *rules, size_t rules_length, const uint8_t *moves, size_t moves_length,
+                      uint8_t *out, size_t out_length);
 
 /* The parts of a search's answer, and the outcome of every other packed one. */
 static inline uint8_t planner_outcome(uint64_t answer) { return (uint8_t)(answer & 0xff); }

@@ -1,0 +1,151 @@
+# What the scripts of tests/c share; each sources it first and calls `report` last. After `rt staticlib planner` and
+# `make -C examples`. What a program has to show is written in the scripts by hand; the first case that fails ends them.
+set -eu
+cd "$(dirname "${BASH_SOURCE[0]}")/../.."
+script=tests/c/$(basename "$0")
+plan=target/examples/plan
+table=target/examples/table
+for program in "$plan" "$table"; do
+  [ -x "$program" ] || { echo "$script: $program is missing; run make -C examples first" >&2; exit 1; }
+done
+work=$(mktemp -d)
+trap 'rm -rf "$work"' EXIT
+cases=0
+
+# document 01's E and H
+e=examples/two-resets.rules
+h=examples/source-000.rules
+
+# an entry that keeps its sequence
+kept=65535
+
+words[1]='rule file: a byte does not fit, the file ends early, or bytes are left over'
+words[2]='rule file: a number outside its limit'
+words[3]='rule file: a variable out of place'
+words[4]='rule file: two rules with equal lines'
+words[5]='the reach is not 1 to 3'
+words[6]='the table has not the length for these rules and this reach'
+words[9]='the start has a wrong length or a value not below its size'
+words[10]='the goal has a wrong length or a value not below its size'
+words[11]='more than 32 moves'
+words[14]='the table is not accepted'
+words[15]='no plan within the bounds'
+words[16]='more sequences to visit than the step limit'
+
+# WHAT EXPECTED GOT COMMAND..: ends the tests if the texts differ
+same() {
+  [ "$2" = "$3" ] && return
+  local command
+  command=$(printf ' %q' "${@:4}")
+  printf '%s: %s differs\nrun:%s\nexpected:\n%s\ngot:\n%s\n' "$script" "$1" "${command:0:500}" "$2" "$3" >&2
+  exit 1
+}
+
+# STATUS STDOUT STDERR COMMAND..: runs a command that has to end with this status and these texts; each text ends in a
+# point, which keeps its line feeds
+run() {
+  local status=0
+  "${@:4}" >"$work/out" 2>"$work/err" || status=$?
+  same 'standard output' "$2" "$(cat "$work/out" && echo .)" "${@:4}"
+  same 'standard error' "$3" "$(cat "$work/err" && echo .)" "${@:4}"
+  same 'the status' "$1" "$status" "${@:4}"
+  cases=$((cases + 1))
+}
+
+# RULES COST STEPS: what plan shows of a plan, its rules separated by spaces
+shown() {
+  local rules=() rule
+  read -ra rules <<<"$1"
+  printf 'outcome 0: plan found\ncost %s\nlength %s\nsteps %s\n' "$2" "${#rules[@]}" "$3"
+  for rule in "${rules[@]}"; do echo "rule $rule"; done
+}
+
+# OUTCOME STEPS CAUSE: what plan shows of another outcome; the cause follows its words
+shown_outcome() {
+  printf 'outcome %s: %s%s\nsteps %s\n' "$1" "${words[$1]}" "$3" "$2"
+}
+
+# RULES COST STEPS ARGUMENT..: a search that finds this plan
+finds() {
+  run 0 "$(shown "$1" "$2" "$3" && echo .)" . "$plan" "${@:4}"
+}
+
+# OUTCOME STEPS CAUSE ARGUMENT..: a search that ends in this outcome, with a blank plan
+ends() {
+  run 1 "$(shown_outcome "$1" "$2" "$3" && echo .)" . "$plan" "${@:4}"
+}
+
+# TEXT ARGUMENT..: the table tool's outcome 0
+does() {
+  run 0 "outcome 0: $1"$'\n.' . "$table" "${@:2}"
+}
+
+# OUTCOME CAUSE ARGUMENT..: the table tool's refusals
+refuses() {
+  run 1 "outcome $1: ${words[$1]}$2"$'\n.' . "$table" "${@:3}"
+}
+
+# MESSAGE COMMAND..: a message, and nothing on standard output
+errs() {
+  run 2 . "${2##*/}: $1"$'\n.' "${@:2}"
+}
+
+# MESSAGE COMMAND..: a message, a line that points to the help, and nothing on standard output
+errs_with_hint() {
+  local name=${2##*/}
+  run 2 . "$name: $1"$'\n'"$name: '$name --help' shows how to call it"$'\n.' "${@:2}"
+}
+
+# EXPECTED FILE: ends the tests if the bytes of two files differ
+same_bytes() {
+  same "$2" "$(od -c "$1")" "$(od -c "$2")" od -c "$2"
+}
+
+# FILE: ends the tests if there is such a file
+absent() {
+  [ ! -e "$1" ] || same "$1" 'no file' 'a file' ls "$1"
+}
+
+# LINE..: a file of these lines
+lines() {
+  printf '%s\n' "$@"
+}
+
+# ENTRY..: a table of these entries, low byte first
+entries() {
+  local entry
+  for entry in "$@"; do printf '%b' "$(printf '\\x%02x\\x%02x' $((entry % 256)) $((entry / 256)))"; done
+}
+
+# FILE: the entries of a table
+entries_of() {
+  od -An -v -tu1 -w2 "$1" | while read -r low high; do printf '%s ' $((low + 256 * high)); done
+}
+
+# the longest rule file: 16 positions of size 16, 31 rules of cost 255, every entry as long as it can be
+longest_file() {
+  local if=x1,x2,x3,x4,x5,x6,x7,x8,x9,x10,x11,x12,x13,x14,x15,x16 rest rule
+  rest=$(printf ',x16%.0s' {3..16})
+  lines positions=16 "sizes=16$(printf ',16%.0s' {2..16})" rules=31
+  for rule in {0..30}; do lines cost=255 "if=$if" "then=x1$((rule / 7)),x1$((rule % 7))$rest"; done
+}
+
+# COMMAND..: with the standard output closed
+closed() {
+  "$@" >&-
+}
+
+# builds tests/c/shim.c, which stands between a program and the system
+build_shim() {
+  "${CC:-cc}" -std=c11 -Wall -Wextra -Wpedantic -Werror -shared -fPIC -o "$work/shim.so" tests/c/shim.c
+}
+
+# SETTING.. COMMAND..: a command under the shim, whose settings are written TRY_NAME=value. Of a command that a signal
+# ends the shell says so on its own standard error, which is left out
+under_shim() {
+  { env LD_PRELOAD="$work/shim.so" "$@" 2>&3; } 3>&2 2>"$work/shell"
+}
+
+report() {
+  echo "$script: $cases cases"
+}

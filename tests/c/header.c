@@ -1,0 +1,181 @@
+/* Calls every entry through include/planner.h, and holds its names to the library, so that a declaration, a helper or a
+ * number that does not fit shows. Document 01's E; what each call has to give is written here by hand. The first that
+ * differs is named, and the status is then 1. tests/c/header builds and runs it. */
+#include <stdbool.h>
+#include <stdio.h>
+#include <stdlib.h>
+#include <string.h>
+
+#include "planner.h"
+
+static const uint8_t rules[] =
+    "positions=2\nsizes=2,2\nrules=2\n"
+    "cost=1\nif=x1,x2\nthen=0,x2\n"
+    "cost=1\nif=x1,x2\nthen=x1,0\n";
+enum { RULES_LENGTH = sizeof rules - 1 };
+
+/* drop=1,1 for=1; drop=2,1 for=1,2; drop=2,2 for=2 */
+static const uint8_t marks[14] = {255, 255, 255, 255, 255, 255, 1, 0, 255, 255, 4, 0, 2, 0};
+
+static void expect(const char *name, bool holds)
+{
+    if (holds)
+        return;
+    printf("%s differs\n", name);
+    exit(1);
+}
+
+/* Whether a buffer holds these bytes, and this byte after them. */
+static bool holds(const uint8_t *buffer, size_t length, const uint8_t *front, size_t front_length, uint8_t rest)
+{
+    for (size_t at = 0; at < length; at++)
+        if (buffer[at] != (at < front_length ? front[at] : rest))
+            return false;
+    return true;
+}
+
+static void files(void)
+{
+    static const uint8_t many[] = "positions=17\n";
+    uint8_t out[90];
+    expect("planner_read", planner_read(rules, RULES_LENGTH) == PLANNER_OK);
+    expect("planner_read of 17 positions", planner_read(many, sizeof many - 1) == PLANNER_OUTSIDE_LIMIT);
+    memset(out, 7, sizeof out);
+    uint64_t answer = planner_rewrite(rules, RULES_LENGTH, out, sizeof out);
+    expect("planner_rewrite", planner_outcome(answer) == PLANNER_OK && planner_size(answer) == 82);
+    expect("the file written again", holds(out, sizeof out, rules, 82, 0));
+    memset(out, 7, sizeof out);
+    answer = planner_rewrite(rules, RULES_LENGTH, out, 81);
+    expect("planner_rewrite into 81 bytes", answer == PLANNER_SHORT_TEXT_BUFFER);
+    expect("the buffer of 81 bytes", holds(out, 81, NULL, 0, 0) && out[81] == 7);
+}
+
+static void tables(void)
+{
+    uint8_t table[14];
+    memset(table, 7, sizeof table);
+    uint64_t size = planner_table_size(rules, RULES_LENGTH, 2);
+    expect("planner_table_size", planner_outcome(size) == PLANNER_OK && planner_size(size) == sizeof table);
+    uint8_t outcome = planner_build_table(rules, RULES_LENGTH, table, sizeof table, 2);
+    expect("planner_build_table", outcome == PLANNER_OK && holds(table, sizeof table, marks, sizeof marks, 0));
+    outcome = planner_build_table(rules, RULES_LENGTH, table, sizeof table, 1);
+    expect("planner_build_table of reach 1", outcome == PLANNER_BAD_TABLE_LENGTH);
+    expect("the table of a refused build", holds(table, sizeof table, NULL, 0, 0));
+    outcome = planner_check_table(rules, RULES_LENGTH, marks, sizeof marks, 2);
+    expect("planner_check_table", outcome == PLANNER_OK);
+    outcome = planner_check_table(rules, RULES_LENGTH, table, sizeof table, 2);
+    expect("planner_check_table of zeros", outcome == PLANNER_TABLE_NOT_ACCEPTED);
+    for (size_t at = 0; at < sizeof table; at += 2) {
+        table[at] = PLANNER_KEPT & 255;
+        table[at + 1] = PLANNER_KEPT >> 8;
+    }
+    outcome = planner_check_table(rules, RULES_LENGTH, table, sizeof table, 2);
+    expect("planner_check_table of a table that keeps all", outcome == PLANNER_OK);
+}
+
+static void macros(void)
+{
+    /* both rules: x1,x2 to 0,0, at cost 2 */
+    static const uint8_t whole[PLANNER_MACRO_SIZE] = {[0] = 16, [1] = 17, [32] = 2};
+    static const uint8_t both[] = {1, 2}, unknown[] = {1, 3};
+    uint8_t out[40];
+    memset(out, 7, sizeof out);
+    uint8_t outcome = planner_macro(rules, RULES_LENGTH, both, 2, out, sizeof out);
+    expect("planner_macro", outcome == PLANNER_OK && holds(out, sizeof out, whole, sizeof whole, 0));
+    outcome = planner_macro(rules, RULES_LENGTH, unknown, 2, out, sizeof out);
+    expect("planner_macro of rule 3", outcome == PLANNER_UNKNOWN_MOVE && holds(out, sizeof out, NULL, 0, 0));
+}
+
+/* The answer of a search of E from 1,1 with these bounds. */
+static uint64_t search_e(const uint8_t *goal, size_t goal_length, uint8_t *plan, size_t plan_length, size_t max_moves,
+                         uint16_t max_cost)
+{
+    static const uint8_t start[] = {1, 1};
+    return planner_search(rules, RULES_LENGTH, marks, sizeof marks, start, sizeof start, goal, goal_length,
+                          plan, plan_length, 2, max_moves, max_cost, 4);
+}
+
+static void searches(void)
+{
+    static const uint8_t goal[] = {0, 0}, any[] = {PLANNER_ANY, 0}, plan_of_p1[] = {1, 2}, plan_of_any[] = {2};
+    uint8_t plan[5];
+    memset(plan, 7, sizeof plan);
+    uint64_t answer = search_e(goal, 2, plan, sizeof plan, 3, 9);
+    expect("planner_search", planner_outcome(answer) == PLANNER_OK);
+    expect("the length", planner_length(answer) == 2);
+    expect("the cost", planner_cost(answer) == 2);
+    expect("the steps", planner_steps(answer) == 4);
+    expect("the plan", holds(plan, sizeof plan, plan_of_p1, 2, PLANNER_ANY));
+    answer = search_e(any, 2, plan, sizeof plan, 3, 9);
+    expect("planner_search for any value", planner_outcome(answer) == PLANNER_OK && planner_cost(answer) == 1);
+    expect("the plan for any value", holds(plan, sizeof plan, plan_of_any, 1, PLANNER_ANY));
+    answer = search_e(goal, 2, plan, sizeof plan, 3, 1);
+    expect("planner_search within cost 1", planner_outcome(answer) == PLANNER_NO_PLAN && planner_steps(answer) == 3);
+    expect("no length and no cost", planner_length(answer) == 0 && planner_cost(answer) == 0);
+    expect("the plan buffer without a plan", holds(plan, sizeof plan, NULL, 0, PLANNER_ANY));
+    expect("planner_search of 6 moves", search_e(goal, 2, plan, sizeof plan, 6, 9) == PLANNER_SHORT_PLAN_BUFFER);
+    expect("planner_search with a short goal", search_e(goal, 1, plan, sizeof plan, 3, 9) == PLANNER_BAD_GOAL);
+}
+
+/* Writes the longest rule file: 31 rules of cost 255, every entry as long as it can be. Gives its length. */
+static size_t write_longest(char text[PLANNER_MAX_FILE + 2])
+{
+    char *at = text;
+    at += sprintf(at, "positions=%d\nsizes=16", PLANNER_MAX_POSITIONS);
+    for (int position = 2; position <= PLANNER_MAX_POSITIONS; position++)
+        at += sprintf(at, ",16");
+    at += sprintf(at, "\nrules=31\n");
+    for (int rule = 0; rule < 31; rule++) {
+        at += sprintf(at, "cost=255\nif=x1");
+        for (int position = 2; position <= PLANNER_MAX_POSITIONS; position++)
+            at += sprintf(at, ",x%d", position);
+        at += sprintf(at, "\nthen=x%d,x%d", 10 + rule / 7, 10 + rule % 7);
+        for (int position = 3; position <= PLANNER_MAX_POSITIONS; position++)
+            at += sprintf(at, ",x16");
+        at += sprintf(at, "\n");
+    }
+    return (size_t)(at - text);
+}
+
+/* The names of the header for the largest of each kind. */
+static void limits(void)
+{
+    static char text[PLANNER_MAX_FILE + 2];
+    const uint8_t *longest = (const uint8_t *)text;
+    size_t length = write_longest(text);
+    expect("PLANNER_MAX_FILE", length == PLANNER_MAX_FILE && planner_read(longest, length) == PLANNER_OK);
+    uint64_t size = planner_table_size(longest, length, PLANNER_MAX_REACH);
+    expect("PLANNER_MAX_REACH", planner_outcome(size) == PLANNER_OK);
+    expect("PLANNER_MAX_TABLE", planner_size(size) == PLANNER_MAX_TABLE);
+    size = planner_table_size(longest, length, PLANNER_MAX_REACH + 1);
+    expect("a reach above PLANNER_MAX_REACH", size == PLANNER_BAD_REACH);
+    text[length] = 'x';
+    expect("a file above PLANNER_MAX_FILE", planner_read(longest, length + 1) == PLANNER_BAD_FORM);
+
+    static const uint8_t goal[] = {0, 0};
+    uint8_t plan[PLANNER_MAX_MOVES];
+    uint64_t answer = search_e(goal, 2, plan, sizeof plan, PLANNER_MAX_MOVES, 9);
+    expect("PLANNER_MAX_MOVES", planner_outcome(answer) == PLANNER_OK);
+    answer = search_e(goal, 2, plan, sizeof plan, PLANNER_MAX_MOVES + 1, 9);
+    expect("more than PLANNER_MAX_MOVES", answer == PLANNER_TOO_MANY_MOVES);
+}
+
+/* The version's numbers and its text agree. */
+static void version(void)
+{
+    char text[16];
+    snprintf(text, sizeof text, "%d.%d", PLANNER_VERSION_MAJOR, PLANNER_VERSION_MINOR);
+    expect("PLANNER_VERSION", strcmp(text, PLANNER_VERSION) == 0);
+}
+
+int main(void)
+{
+    expect("the length of E", RULES_LENGTH == 82);
+    files();
+    tables();
+    macros();
+    searches();
+    limits();
+    version();
+    return 0;
+}
