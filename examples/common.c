@@ -19,10 +19,6 @@ enum { ENDING_SIGNALS = sizeof ending_signals / sizeof ending_signals[0] };
 
 void begin(void)
 {
-    /* each against the stream's own direction: reading or writing it fails, as it would have */
-    for (int stream = STDIN_FILENO; stream <= STDERR_FILENO; stream++)
-        if (fcntl(stream, F_GETFD) == -1 && open("/dev/null", stream == STDIN_FILENO ? O_WRONLY : O_RDONLY) != stream)
-            _exit(STATUS_FAILED);
     if (setvbuf(stderr, NULL, _IOLBF, BUFSIZ) != 0 || signal(SIGXFSZ, SIG_IGN) == SIG_ERR)
         fail("start", strerror(errno));
 }

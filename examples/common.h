@@ -18,8 +18,8 @@ enum status {
 /* The program's name in messages; each program defines it. */
 extern const char program[];
 
-/* To be called first: no file that is opened takes the place of a closed standard stream, and a file that grows beyond
- * the system's limit is an error like any other, and not the end of the program. */
+/* To be called first: a message goes out in one piece, and a file that grows beyond the system's limit is an error like
+ * any other, and not the end of the program. */
 void begin(void);
 
 /* Ends standard output and gives the exit status for an outcome; output that could not be written ends the program. */
