@@ -37,7 +37,8 @@ static void show_help(void)
     printf("usage: plan RULES TABLE START GOAL [--reach N] [--moves N] [--cost N] [--steps N] [--log FILE]\n"
            "Shows the cheapest plan from START to GOAL: cost, length, steps and the rule numbers, one a line.\n"
            "  RULES       a rule file, of at most %d bytes; of a longer file the first %d are judged\n"
-           "  TABLE       its pruning table, a file; or the word build, to build it (a file of that name: ./build)\n"
+           "  TABLE       its pruning table, a file; or the word build, to build it (a file of that name: ./build).\n"
+           "              A table has at most %d bytes, and a longer file is not read to its end\n"
            "  START       a value for each position, a comma list\n"
            "  GOAL        likewise; any or * for any value\n"
            "  --reach N   the reach of the table, 1 to %d; default %d\n"
@@ -47,8 +48,8 @@ static void show_help(void)
            "  --log FILE  append the answer and the rule file to FILE, under a lock, whole or not at all\n"
            "  --help      show this and do nothing else\n"
            "  --version   show the version and do nothing else\n",
-           PLANNER_MAX_FILE, MOST_OF_RULES, PLANNER_MAX_REACH, DEFAULT_REACH, PLANNER_MAX_MOVES, DEFAULT_MOVES,
-           UINT16_MAX, DEFAULT_COST, UINT32_MAX, DEFAULT_STEPS);
+           PLANNER_MAX_FILE, MOST_OF_RULES, PLANNER_MAX_TABLE, PLANNER_MAX_REACH, DEFAULT_REACH, PLANNER_MAX_MOVES,
+           DEFAULT_MOVES, UINT16_MAX, DEFAULT_COST, UINT32_MAX, DEFAULT_STEPS);
     printf("Options may stand anywhere and be written --moves=12; -- ends them. Numbers are in base ten.\n"
            "Of an option given twice the last counts.\n"
            "Exit status: 0 a plan, 1 another outcome, 2 a bad argument or a file that could not be read or written.\n");
