@@ -102,22 +102,39 @@ static void put_lengths(FILE *out, const struct query *query)
 void put_words(FILE *out, uint8_t outcome, const char *success, const struct query *query)
 {
     fputs(general_words(outcome, success), out);
-    if (outcome >= PLANNER_BAD_FORM && outcome <= PLANNER_DUPLICATE_RULES && query->rules.cut)
-        fprintf(out, "; the file has more than %d bytes, the most of a rule file", PLANNER_MAX_FILE);
-    else if (outcome == PLANNER_BAD_REACH)
+    switch (outcome) {
+    case PLANNER_BAD_FORM:
+    case PLANNER_OUTSIDE_LIMIT:
+    case PLANNER_MISPLACED_VARIABLE:
+    case PLANNER_DUPLICATE_RULES:
+        if (query->rules.cut)
+            fprintf(out, "; the file has more than %d bytes, the most of a rule file", PLANNER_MAX_FILE);
+        break;
+    case PLANNER_BAD_REACH:
         fprintf(out, ": it is %zu", query->reach);
-    else if (outcome == PLANNER_BAD_TABLE_LENGTH)
+        break;
+    case PLANNER_BAD_TABLE_LENGTH:
         put_lengths(out, query);
-    else if (outcome == PLANNER_BAD_START)
+        break;
+    case PLANNER_BAD_START:
         put_fault(out, query->rules, query->start, false);
-    else if (outcome == PLANNER_BAD_GOAL)
+        break;
+    case PLANNER_BAD_GOAL:
         put_fault(out, query->rules, query->goal, true);
-    else if (outcome == PLANNER_TOO_MANY_MOVES)
+        break;
+    case PLANNER_TOO_MANY_MOVES:
         fprintf(out, ": %zu", query->max_moves);
-    else if (outcome == PLANNER_TABLE_NOT_ACCEPTED)
+        break;
+    case PLANNER_TABLE_NOT_ACCEPTED:
         fprintf(out, ": a mark is not justified; 'table build RULES %zu TABLE' writes a right one", query->reach);
-    else if (outcome == PLANNER_NO_PLAN)
+        break;
+    case PLANNER_NO_PLAN:
         fprintf(out, ": moves %zu, cost %u", query->max_moves, query->max_cost);
-    else if (outcome == PLANNER_STEP_LIMIT)
+        break;
+    case PLANNER_STEP_LIMIT:
         fprintf(out, ": %" PRIu32, query->step_limit);
+        break;
+    default:
+        break;
+    }
 }
