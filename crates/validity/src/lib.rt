@@ -4,11 +4,13 @@ use model_spec::Rule;
 use model_spec::RuleSet;
 use rule_validity::rule_valid;
 use states::same_entries;
+ghost use mathlib.Core.Bool.{true};
+ghost use mathlib.Core.Logic.{_↔_};
 ghost use mathlib.Core.Path.{_≡_};
 ghost use Prim.Native.Nat.{_<_};
 ghost use Rattle.theory_spec.specs.Lists.{within};
 ghost use Rattle.model_spec.specs.Validity.{sizeValid, sizesValid, ruleBlank, ruleValidAt, rulesValid};
-ghost use Rattle.model_spec.specs.Validity.{wellFormed, valid};
+ghost use Rattle.model_spec.specs.Validity.{wellFormed, valid, Valid};
 
 // Whether `number` is one from `least` to `most`.
 fn in_range(least: u8, most: u8, number: u8) -> bool
@@ -107,9 +109,12 @@ fn well_formed(set: RuleSet) -> bool
     rules_valid(set)
 }
 
-// Whether a set is valid: every number within its limit, every variable in place, no duplicates, and zero in every unused place.
+// Whether a set is valid: every number within its limit, every variable in place, no duplicates, and zero in every
+// unused place.
 pub fn is_valid(set: RuleSet) -> bool
-    ensures { λ r. ⌜ r ≡ valid set ⌝ }
+    ensures { λ r. ⌜
+        (r ≡ valid set)
+        × ((r ≡ true) ↔ Valid set) ⌝ }
 {
     if !well_formed(set) {
         return false;

@@ -23,17 +23,17 @@ is-valid-requires c κs = search needs
 returns : tie.Need-returns
 returns c =
     let s = c .before .before .before .args in
-    let invalid = failed (c .before .is-valid .ensures) (c .if1 .taken) in
+    let invalid = failed (c .before .is-valid .ensures .0) (c .if1 .taken) in
     answers (s .set) (s .reach) (s .table .now) 7 (check-meaning (s .set) (s .reach) (s .table .now) .notValid .1 (λ v. not-both (valid-iff (s .set) .1 v) invalid))
 
 check-for-requires : tie.Need-check-for-requires
-check-for-requires c κs = let s = c .before .before .before .args in valid-iff (s .set) .0 (passed (c .before .is-valid .ensures) (c .if1 .left)) .formed
+check-for-requires c κs = let s = c .before .before .before .args in valid-iff (s .set) .0 (passed (c .before .is-valid .ensures .0) (c .if1 .left)) .formed
 
 returns-2 : tie.Need-returns-2
 returns-2 c =
     let judged = c .before in
     let s = judged .before .before .before .args in
-    answers (s .set) (s .reach) (s .table .now) _ (check-judged (s .set) (s .reach) (s .table .now) (passed (judged .before .is-valid .ensures) (judged .if1 .left)) ∙ sym (c .check-for .ensures))
+    answers (s .set) (s .reach) (s .table .now) _ (check-judged (s .set) (s .reach) (s .table .now) (passed (judged .before .is-valid .ensures .0) (judged .if1 .left)) ∙ sym (c .check-for .ensures))
 
 pub check-table-spec : {M : Type 1} → statement M
 check-table-spec = tie.close (tie.spec is-valid-requires returns check-for-requires returns-2)

@@ -18,12 +18,12 @@ returns-2 c = sym (outcome-left _ _ _ _ (c .before .before .before .before .befo
 returns-3 : tie.Need-returns-3
 returns-3 c =
     let branch = c .before .before .before in
-    sym (outcome-duplicates _ _ _ _ (branch .before .before .before .pre) (branch .if1 .left) (c .before .if2 .left) (c .before .before .is-valid .ensures) (c .if3 .taken))
+    sym (outcome-duplicates _ _ _ _ (branch .before .before .before .pre) (branch .if1 .left) (c .before .if2 .left) (c .before .before .is-valid .ensures .0) (c .if3 .taken))
 
 returns-4 : tie.Need-returns-4
 returns-4 c =
     let branch = c .before .before .before in
-    sym (outcome-none _ _ _ _ (branch .before .before .before .pre) (branch .if1 .left) (c .before .if2 .left) (c .before .before .is-valid .ensures) (c .if3 .left))
+    sym (outcome-none _ _ _ _ (branch .before .before .before .pre) (branch .if1 .left) (c .before .if2 .left) (c .before .before .is-valid .ensures .0) (c .if3 .left))
 
 pub outcome-of-spec : {M : Type 1} → statement M
 outcome-of-spec = tie.close (tie.spec returns is-valid-requires returns-2 returns-3 returns-4)

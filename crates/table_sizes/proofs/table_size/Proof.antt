@@ -24,7 +24,7 @@ is-valid-requires c κs = search needs
 returns : tie.Need-returns
 returns c =
     let s = c .before .before .args in
-    let invalid = failed (c .before .is-valid .ensures) (c .if1 .taken) in
+    let invalid = failed (c .before .is-valid .ensures .0) (c .if1 .taken) in
     let e = size-meaning (s .set) (s .reach) .notValid .1 (λ v. not-both (valid-iff (s .set) .1 v) invalid) in
     answers (s .set) (s .reach) _ (size-refused (s .set) (s .reach) 7 (λ z. omega arith) e)
 
@@ -35,7 +35,7 @@ returns-2 : tie.Need-returns-2
 returns-2 c =
     let judged = c .before in
     let s = judged .before .before .args in
-    answers (s .set) (s .reach) _ (size-judged (s .set) (s .reach) (passed (judged .before .is-valid .ensures) (judged .if1 .left)) ∙ sym (c .size-for .ensures))
+    answers (s .set) (s .reach) _ (size-judged (s .set) (s .reach) (passed (judged .before .is-valid .ensures .0) (judged .if1 .left)) ∙ sym (c .size-for .ensures))
 
 pub table-size-spec : {M : Type 1} → statement M
 table-size-spec = tie.close (tie.spec is-valid-requires returns size-for-requires returns-2)

@@ -56,7 +56,7 @@ returns : tie.Need-returns
 returns c =
     let branch = c .before .before .before .before in
     let s = branch .before .before .before .args in
-    let w = not-valid (s .set) (length (s .text .now)) (failed (branch .before .is-valid .ensures) (branch .if1 .taken)) in
+    let w = not-valid (s .set) (length (s .text .now)) (failed (branch .before .is-valid .ensures .0) (branch .if1 .taken)) in
     answers (s .set) (length (s .text .now)) _ _ (w .0) (c .before .before .fill-from .ensures ∙ zeros-whole _ ∙ w .1)
 
 put-file-requires : tie.Need-put-file-requires
@@ -74,7 +74,7 @@ returns-2 c =
     let branch = file .before .before in
     let s = branch .before .before .before .args in
     let room = length (s .text .now) in
-    let t = passed (branch .before .is-valid .ensures) (branch .if1 .left) in
+    let t = passed (branch .before .is-valid .ensures .0) (branch .if1 .left) in
     let laid = file .put-file .ensures in
     let same = laid-length laid in
     let end = laid-end laid (omega (arith, render-bound (s .set) t)) in
@@ -94,7 +94,7 @@ returns-3 c =
     let branch = file .before .before in
     let s = branch .before .before .before .args in
     let room = length (s .text .now) in
-    let t = passed (branch .before .is-valid .ensures) (branch .if1 .left) in
+    let t = passed (branch .before .is-valid .ensures .0) (branch .if1 .left) in
     let laid = file .put-file .ensures in
     let same = laid-length laid in
     let low : length (render (s .set)) ≤ lastPlace = omega (arith, render-bound (s .set) t) in
