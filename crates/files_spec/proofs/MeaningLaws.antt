@@ -12,7 +12,7 @@ use Rattle.files_spec.specs.Meaning.{JudgeMeaning, ReadMeaning, WriteMea
 use Rattle.files_spec.proofs.RoundTrip.{accepted-iff, duplicates-iff, read-written}
 use Rattle.files_spec.proofs.ReadTextLaws.{read-as}
 use Rattle.files_spec.proofs.WriterLaws.{writes-iff, invalid-iff, short-iff}
-use Rattle.files_spec.proofs.AgainLaws.{file-text}
+use Rattle.files_spec.proofs.AgainLaws.{file-text, set-again}
 use Rattle.files_spec.proofs.RefusedLaws.{reading-bound, reading-refused, written-refused}
 use Rattle.files_spec.proofs.FaultLaws.{form-iff, limit-iff, place-iff}
 
@@ -43,5 +43,6 @@ write-meaning set room =
       tooLong = short-iff set room;
       fits = writes-iff set room;
       whole = λ e. (ap length (file-text set room e), ap (padded room 0) (file-text set room e));
+      again = set-again set room;
       refused = written-refused set room;
     }
