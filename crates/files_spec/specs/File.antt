@@ -1,4 +1,5 @@
--- The rule file of a set (document 01: the file is key=value lines in a fixed order, each ended by one line feed, with no spaces).
+-- The rule file of a set (document 01: the file is key=value lines in a fixed order, each ended by one line feed, with
+-- no spaces).
 use mathlib.Core.Bool.{cond}
 use mathlib.Core.List.{List, [], _∷_, _++_, map}
 use Prim.Native.Nat.{ℕ, _-_}
@@ -20,7 +21,9 @@ entryText e = cond (isConstant e) (numeral e) (variableLetter ∷ numeral (e - 1
 -- the three lines of a rule, one entry a position
 unfoldable pub ruleText : ℕ → Rule → List ℕ
 ruleText positions rule =
-    line "cost=" (numeral (rule .cost) ∷ []) ++ line "if=" (map entryText (take positions (rule .condition))) ++ line "then=" (map entryText (take positions (rule .effect)))
+    line "cost=" (numeral (rule .cost) ∷ [])
+    ++ line "if=" (map entryText (take positions (rule .condition)))
+    ++ line "then=" (map entryText (take positions (rule .effect)))
 
 -- the file of a set
 unfoldable pub render : RuleSet → List ℕ

@@ -1,5 +1,5 @@
--- Reading a rule file, judged in text order, item by item: an item's bytes and the byte that ends it for 1, then its limit for 2, then its place for 3, then the next item.
--- Bytes left over are 1; duplicates, 4, come last.
+-- Reading a rule file, judged in text order, item by item: an item's bytes and the byte that ends it for 1, then its
+-- limit for 2, then its place for 3, then the next item. Bytes left over are 1; duplicates, 4, come last.
 use mathlib.Core.Path.{_≡_}
 use mathlib.Core.Bool.{Bool, true, not, cond, _&&_, _||_}
 use mathlib.Core.List.{List, [], _∷_, _++_}
@@ -62,7 +62,9 @@ decimal ds = decimalFrom 0 ds
 -- a number and the byte that ends it
 unfoldable pub number : ℕ → List ℕ → Parsed ℕ
 number ending text =
-    cond (isNumber (digits text)) (andRead (literal (ending ∷ []) (drop (length (digits text)) text)) (λ _ rest. parsed (decimal (digits text)) rest)) (refused 1)
+    cond (isNumber (digits text))
+    (andRead (literal (ending ∷ []) (drop (length (digits text)) text)) (λ _ rest. parsed (decimal (digits text)) rest))
+    (refused 1)
 
 -- ── Items, judged for 1, then 2, then 3 ──────────────────────────────────────────────────────────
 
@@ -80,7 +82,10 @@ constant size ending text = refusedUnless 2 (λ n. ltb n size) (number ending te
 
 -- an entry at place i: `x` and a position number, or a constant
 unfoldable pub entry : ℕ → List ℕ → ℕ → ℕ → List ℕ → Parsed ℕ
-entry positions sizes i ending text = cond (eqb (getD text 0 0) variableLetter) (variable positions ending (drop 1 text)) (constant (getD sizes i 0) ending text)
+entry positions sizes i ending text =
+    cond (eqb (getD text 0 0) variableLetter)
+    (variable positions ending (drop 1 text))
+    (constant (getD sizes i 0) ending text)
 
 -- an item of a list is read by what stands before it in the list, the byte that is to end it, and the text
 abbrev pub Item : Type 0
@@ -93,12 +98,14 @@ sizeItem before ending text = numberWithin 2 16 ending text
 -- an entry of an `if` line, judged for its place after those before it
 unfoldable pub conditionItem : ℕ → List ℕ → Item
 conditionItem positions sizes before ending text =
-    refusedUnless 3 (λ e. conditionPlaced positions sizes (before ++ (e ∷ [])) (length before) e) (entry positions sizes (length before) ending text)
+    refusedUnless 3 (λ e. conditionPlaced positions sizes (before ++ (e ∷ [])) (length before) e)
+    (entry positions sizes (length before) ending text)
 
 -- an entry of a `then` line, judged for its place by the `if` line
 unfoldable pub effectItem : ℕ → List ℕ → List ℕ → Item
 effectItem positions sizes condition before ending text =
-    refusedUnless 3 (λ e. effectPlaced positions sizes condition (length before) e) (entry positions sizes (length before) ending text)
+    refusedUnless 3 (λ e. effectPlaced positions sizes condition (length before) e)
+    (entry positions sizes (length before) ending text)
 
 -- ── Lines ────────────────────────────────────────────────────────────────────────────────────────
 
@@ -110,7 +117,8 @@ endingOf (suc after) = comma
 -- n more items of a list, after those before
 unfoldable pub itemsAfter : Item → ℕ → List ℕ → List ℕ → Parsed (List ℕ)
 itemsAfter item zero before text = parsed before text
-itemsAfter item (suc n) before text = andRead (item before (endingOf n) text) (λ e rest. itemsAfter item n (before ++ (e ∷ [])) rest)
+itemsAfter item (suc n) before text =
+    andRead (item before (endingOf n) text) (λ e rest. itemsAfter item n (before ++ (e ∷ [])) rest)
 
 -- a line with a key and one number
 unfoldable pub numberLine : String → ℕ → ℕ → List ℕ → Parsed ℕ
@@ -119,7 +127,9 @@ numberLine key lo hi text = andRead (literal (bytes key) text) (λ _ rest. numbe
 -- a line with a key and a list of n items; the places beyond them are 0
 unfoldable pub listLine : String → Item → ℕ → List ℕ → Parsed (List ℕ)
 listLine key item n text =
-    andRead (literal (bytes key) text) (λ _ rest. andRead (itemsAfter item n [] rest) (λ items rest. parsed (padded 16 0 items) rest))
+    andRead (literal (bytes key) text) (λ _ rest.
+    andRead (itemsAfter item n [] rest) (λ items rest.
+    parsed (padded 16 0 items) rest))
 
 -- the lines of a rule
 unfoldable pub ruleLines : ℕ → List ℕ → List ℕ → Parsed Rule
@@ -132,11 +142,13 @@ ruleLines positions sizes text =
 -- the lines of n more rules, after those before
 unfoldable pub rulesAfter : ℕ → List ℕ → ℕ → List Rule → List ℕ → Parsed (List Rule)
 rulesAfter positions sizes zero before text = parsed before text
-rulesAfter positions sizes (suc n) before text = andRead (ruleLines positions sizes text) (λ rule rest. rulesAfter positions sizes n (before ++ (rule ∷ [])) rest)
+rulesAfter positions sizes (suc n) before text =
+    andRead (ruleLines positions sizes text) (λ rule rest. rulesAfter positions sizes n (before ++ (rule ∷ [])) rest)
 
 -- the lines of n rules; the rules beyond them are zero throughout
 unfoldable pub ruleList : ℕ → List ℕ → ℕ → List ℕ → Parsed (List Rule)
-ruleList positions sizes n text = andRead (rulesAfter positions sizes n [] text) (λ rules rest. parsed (padded 31 blankRule rules) rest)
+ruleList positions sizes n text =
+    andRead (rulesAfter positions sizes n [] text) (λ rules rest. parsed (padded 31 blankRule rules) rest)
 
 -- ── The file ─────────────────────────────────────────────────────────────────────────────────────
 
@@ -153,7 +165,10 @@ fileLines text =
 unfoldable pub finished : Parsed RuleSet → Reading
 finished (refused n) = record { outcome = n; set = emptySet }
 finished (parsed set (b ∷ rest)) = record { outcome = 1; set = emptySet }
-finished (parsed set []) = cond (hasDuplicates (set .rules) (set .count)) (record { outcome = 4; set = emptySet }) (record { outcome = 0; set = set })
+finished (parsed set []) =
+    cond (hasDuplicates (set .rules) (set .count))
+    (record { outcome = 4; set = emptySet })
+    (record { outcome = 0; set = set })
 
 -- what the reader gives of a text
 unfoldable pub reading : List ℕ → Reading
@@ -175,4 +190,7 @@ Faultless text = (set : RuleSet) × Valid set × (text ≡ render set)
 
 -- its only fault is that rules are duplicates (document 01: twins), outcome 4
 abbrev pub OnlyDuplicates : List ℕ → Type 0
-OnlyDuplicates text = (set : RuleSet) × (wellFormed set ≡ true) × (hasDuplicates (set .rules) (set .count) ≡ true) × (text ≡ render set)
+OnlyDuplicates text =
+    (set : RuleSet) × (wellFormed set ≡ true)
+    × (hasDuplicates (set .rules) (set .count) ≡ true)
+    × (text ≡ render set)

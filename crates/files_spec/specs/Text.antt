@@ -21,10 +21,15 @@ comma = 44
 abbrev pub digit : ℕ → ℕ
 digit n = 48 + n
 
--- a number below 1000 in base ten, its first digit not 0 unless it is the only one. No number of a rule file or a listing is larger
+-- a number below 1000 in base ten, its first digit not 0 unless it is the only one. No number of a rule file or a
+-- listing is larger
 unfoldable pub numeral : ℕ → List ℕ
 numeral n =
-    cond (ltb n 10) (digit n ∷ []) (cond (ltb n 100) (digit (n / 10) ∷ digit (n % 10) ∷ []) (digit (n / 100) ∷ digit (n / 10 % 10) ∷ digit (n % 10) ∷ []))
+    cond (ltb n 10)
+    (digit n ∷ [])
+    (cond (ltb n 100)
+    (digit (n / 10) ∷ digit (n % 10) ∷ [])
+    (digit (n / 100) ∷ digit (n / 10 % 10) ∷ digit (n % 10) ∷ []))
 
 -- the items with commas between them
 abbrev pub commaList : List (List ℕ) → List ℕ

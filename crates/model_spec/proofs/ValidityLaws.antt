@@ -10,7 +10,7 @@ use native.Mathlib.Omega.{arith}
 use lib.ListN.{length, getD, replicate, getD-replicate, List·getD-eq-default}
 use Rattle.theory_spec.specs.Lists.{onlyIf}
 use Rattle.theory_spec.specs.Sequences.{Sequence, Numbered}
-use Rattle.theory_spec.specs.Pruning.{Closed}
+use Rattle.theory_spec.specs.how.Pruning.{Closed}
 use Rattle.theory_spec.proofs.TestLaws.{below?, leb-iff, ltb-iff, eqb-iff, same-iff, not-iff, and-iff, within-iff, cond-iff, or-iff, every-below-iff, any-below-iff}
 use Rattle.model_spec.specs.States.{State, valueOf, applicable, successor, width, IsState}
 use Rattle.model_spec.specs.Rules.{noRule, blankRule, emptySet, ruleAt, stepOf, ruleCost, StateOf, sequenceCost}

@@ -1,4 +1,5 @@
--- One way to an outcome: each call on a rule set has a list of causes in document 01's order, each with its number and a test, and the first that holds is the answer.
+-- One way to an outcome: each call on a rule set has a list of causes in document 01's order, each with its number and a
+-- test, and the first that holds is the answer.
 use mathlib.Core.Path.{_≡_}
 use mathlib.Core.Logic.{_≢_}
 use mathlib.Core.Bool.{Bool, true, false}
@@ -22,7 +23,10 @@ NoneHolds ((n, b) ∷ causes) = (b ≡ false) × NoneHolds causes
 
 -- the cause of n holds, and none before it does
 abbrev pub First : ℕ → List Cause → Type 0
-First n causes = (before : List Cause) × (after : List Cause) × (causes ≡ before ++ ((n, true) ∷ after)) × NoneHolds before
+First n causes =
+    (before : List Cause) × (after : List Cause)
+    × (causes ≡ before ++ ((n, true) ∷ after))
+    × NoneHolds before
 
 -- no refusal has the number 0
 abbrev pub NonZero : List Cause → Type 0

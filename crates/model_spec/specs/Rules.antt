@@ -24,7 +24,8 @@ blankRule = record { cost = 0; condition = replicate 16 0; effect = replicate 16
 abbrev pub emptySet : RuleSet
 emptySet = record { positions = 0; sizes = replicate 16 0; count = 0; rules = replicate 31 blankRule }
 
--- the rule of a number from 1 to the number of rules. No answer depends on what it gives of another number: such a move is refused first
+-- the rule of a number from 1 to the number of rules. No answer depends on what it gives of another number: such a move
+-- is refused first
 unfoldable pub ruleAt : RuleSet → ℕ → Rule
 ruleAt set r = getD (set .rules) (r - 1) noRule
 
@@ -68,4 +69,6 @@ sameEnd (some t) (some u) = same t u
 
 -- redundancy as a test
 unfoldable pub redundant : RuleSet → Sequence → Sequence → Bool
-redundant set b a = leb (sequenceCost set a) (sequenceCost set b) && every (λ s. sameEnd (runIn set b s) (runIn set a s)) (statesOf set)
+redundant set b a =
+    leb (sequenceCost set a) (sequenceCost set b)
+    && every (λ s. sameEnd (runIn set b s) (runIn set a s)) (statesOf set)

@@ -1,5 +1,6 @@
 -- States, and what a condition and an effect mean in one.
--- A state (document 01: a yard) has sixteen places: the value of each position, and 0 in the places beyond the positions.
+-- A state (document 01: a yard) has sixteen places: the value of each position, and 0 in the places beyond the
+-- positions.
 use mathlib.Core.Path.{_≡_}
 use mathlib.Core.Bool.{Bool, cond}
 use mathlib.Core.List.{List, [], _∷_, map}
@@ -15,8 +16,8 @@ State = List ℕ
 abbrev pub places : List ℕ
 places = numbersFrom 0 16
 
--- an entry below 16 is that constant; 16 + k, for k from 0 to 15, is the variable of position k + 1 (document 01: `x` and k + 1).
--- Other bytes are in no valid set
+-- an entry below 16 is that constant; 16 + k, for k from 0 to 15, is the variable of position k + 1 (document 01: `x`
+-- and k + 1). Other bytes are in no valid set
 abbrev pub isConstant : ℕ → Bool
 isConstant e = ltb e 16
 

@@ -1,5 +1,5 @@
--- Validity of a rule set (document 01: soundness), by limits and places alone. A place that is not used holds 0 throughout.
--- The limits are outcome 2's, the places outcome 3's, duplicates outcome 4's.
+-- Validity of a rule set (document 01: soundness), by limits and places alone. A place that is not used holds 0
+-- throughout. The limits are outcome 2's, the places outcome 3's, duplicates outcome 4's.
 use mathlib.Core.Path.{_≡_}
 use mathlib.Core.Bool.{Bool, not, cond, _&&_, _||_}
 use mathlib.Core.List.{List}
@@ -20,17 +20,22 @@ variablePlace e = e - 16
 
 -- an entry at place i is within its limit: a constant below the size there, or the variable of one of the positions
 unfoldable pub entryLimited : ℕ → List ℕ → ℕ → ℕ → Bool
-entryLimited positions sizes i e = cond (isConstant e) (ltb e (width positions sizes i)) (ltb (variablePlace e) positions)
+entryLimited positions sizes i e =
+    cond (isConstant e) (ltb e (width positions sizes i)) (ltb (variablePlace e) positions)
 
 -- a variable `xj` at place i of a condition is in place: equal sizes, j at most i, and `xj` itself at j
 unfoldable pub conditionPlaced : ℕ → List ℕ → List ℕ → ℕ → ℕ → Bool
 conditionPlaced positions sizes condition i e =
-    isConstant e || (eqb (width positions sizes (variablePlace e)) (width positions sizes i) && (leb (variablePlace e) i && eqb (getD condition (variablePlace e) 0) e))
+    isConstant e
+    || (eqb (width positions sizes (variablePlace e)) (width positions sizes i)
+    && (leb (variablePlace e) i && eqb (getD condition (variablePlace e) 0) e))
 
 -- a variable `xj` at place i of an effect is in place: equal sizes, and `xj` at j of the condition
 unfoldable pub effectPlaced : ℕ → List ℕ → List ℕ → ℕ → ℕ → Bool
 effectPlaced positions sizes condition i e =
-    isConstant e || (eqb (width positions sizes (variablePlace e)) (width positions sizes i) && eqb (getD condition (variablePlace e) 0) e)
+    isConstant e
+    || (eqb (width positions sizes (variablePlace e)) (width positions sizes i)
+    && eqb (getD condition (variablePlace e) 0) e)
 
 -- ── The parts of a set ───────────────────────────────────────────────────────────────────────────
 
@@ -38,13 +43,17 @@ effectPlaced positions sizes condition i e =
 unfoldable pub conditionValid : ℕ → List ℕ → List ℕ → Bool
 conditionValid positions sizes condition =
     eqb (length condition) 16
-    && every (λ i. entryLimited positions sizes i (getD condition i 0) && conditionPlaced positions sizes condition i (getD condition i 0)) places
+    && every (λ i.
+    entryLimited positions sizes i (getD condition i 0)
+    && conditionPlaced positions sizes condition i (getD condition i 0)) places
 
 -- every entry of an effect, after its condition
 unfoldable pub effectValid : ℕ → List ℕ → List ℕ → List ℕ → Bool
 effectValid positions sizes condition effect =
     eqb (length effect) 16
-    && every (λ i. entryLimited positions sizes i (getD effect i 0) && effectPlaced positions sizes condition i (getD effect i 0)) places
+    && every (λ i.
+    entryLimited positions sizes i (getD effect i 0)
+    && effectPlaced positions sizes condition i (getD effect i 0)) places
 
 -- the size at place i: 2 to 16 for a position, 0 beyond
 unfoldable pub sizeValid : ℕ → List ℕ → ℕ → Bool
@@ -56,7 +65,10 @@ sizesValid positions sizes = eqb (length sizes) 16 && every (sizeValid positions
 
 -- a rule of the set: its cost from 0 to 255, and both its lines
 unfoldable pub ruleValid : ℕ → List ℕ → Rule → Bool
-ruleValid positions sizes rule = leb (rule .cost) 255 && (conditionValid positions sizes (rule .condition) && effectValid positions sizes (rule .condition) (rule .effect))
+ruleValid positions sizes rule =
+    leb (rule .cost) 255
+    && (conditionValid positions sizes (rule .condition)
+    && effectValid positions sizes (rule .condition) (rule .effect))
 
 -- an unused rule is zero throughout
 unfoldable pub ruleBlank : Rule → Bool
@@ -65,7 +77,9 @@ ruleBlank rule = eqb (rule .cost) 0 && (same (rule .condition) (replicate 16 0) 
 -- the rule at place k: valid where it is used, blank beyond
 unfoldable pub ruleValidAt : RuleSet → ℕ → Bool
 ruleValidAt set k =
-    cond (ltb k (set .count)) (ruleValid (set .positions) (set .sizes) (getD (set .rules) k noRule)) (ruleBlank (getD (set .rules) k noRule))
+    cond (ltb k (set .count))
+    (ruleValid (set .positions) (set .sizes) (getD (set .rules) k noRule))
+    (ruleBlank (getD (set .rules) k noRule))
 
 -- every rule
 unfoldable pub rulesValid : RuleSet → Bool
@@ -87,7 +101,10 @@ hasDuplicates rules n = any (repeated rules) (numbersFrom 0 n)
 
 -- valid but for duplicates: 1 to 16 positions, 1 to 31 rules, all sizes and rules valid
 unfoldable pub wellFormed : RuleSet → Bool
-wellFormed set = within 1 16 (set .positions) && (sizesValid (set .positions) (set .sizes) && (within 1 31 (set .count) && rulesValid set))
+wellFormed set =
+    within 1 16 (set .positions)
+    && (sizesValid (set .positions) (set .sizes)
+    && (within 1 31 (set .count) && rulesValid set))
 
 -- the set is valid (document 01: sound)
 unfoldable pub valid : RuleSet → Bool
@@ -119,11 +136,13 @@ pub record WellFormed (set : RuleSet) : Type 0 where
   pub countLimits : (1 ≤ set .count) × (set .count ≤ 31)
   pub rulesLength : length (set .rules) ≡ 31
   pub costLimits : (k : ℕ) → k < set .count → getD (set .rules) k noRule .cost ≤ 255
-  pub lines : (k : ℕ) → k < set .count → LinesValid (set .positions) (set .sizes) (getD (set .rules) k noRule .condition) (getD (set .rules) k noRule .effect)
+  pub lines : (k : ℕ) → k < set .count
+      → (let rule = getD (set .rules) k noRule in LinesValid (set .positions) (set .sizes) (rule .condition) (rule .effect))
   pub rulesBeyond : (k : ℕ) → set .count ≤ k → k < 31 → getD (set .rules) k noRule ≡ blankRule
 
 -- the set is valid (document 01: sound)
 pub record Valid (set : RuleSet) : Type 0 where
   pub formed : WellFormed set
   pub noDuplicates : (j k : ℕ) → j < k → k < set .count
-      → (getD (set .rules) j noRule .condition ≡ getD (set .rules) k noRule .condition) × (getD (set .rules) j noRule .effect ≡ getD (set .rules) k noRule .effect) → ⊥
+      → (getD (set .rules) j noRule .condition ≡ getD (set .rules) k noRule .condition)
+      × (getD (set .rules) j noRule .effect ≡ getD (set .rules) k noRule .effect) → ⊥

@@ -36,7 +36,8 @@ pub fn entry_limited(positions: u8, sizes: &[u8; 16], i: usize, entry: u8) -> bo
     entry - 16 < positions
 }
 
-// Whether a variable may stand at place i of an effect: equal sizes, and itself at its own place of the condition. A constant always may.
+// Whether a variable may stand at place i of an effect: equal sizes, and itself at its own place of the condition.
+// A constant always may.
 pub fn effect_placed(
     positions: u8,
     sizes: &[u8; 16],
@@ -56,7 +57,8 @@ pub fn effect_placed(
     entry_at(condition, place) == entry
 }
 
-// Whether a variable may stand at place i of a condition: as in an effect, and its own place not later. A constant always may.
+// Whether a variable may stand at place i of a condition: as in an effect, and its own place not later. A constant
+// always may.
 pub fn condition_placed(
     positions: u8,
     sizes: &[u8; 16],

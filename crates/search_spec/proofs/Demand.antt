@@ -13,7 +13,8 @@ use lib.ListN.{length, replicate}
 use borrow.Author.Tests.{ltb-true, ltb-false}
 use Rattle.theory_spec.specs.Lists.{_∈_, isSome, padded}
 use Rattle.theory_spec.specs.Sequences.{Sequence}
-use Rattle.theory_spec.specs.Plans.{Preferred, Least}
+use Rattle.theory_spec.specs.Plans.{Preferred}
+use Rattle.theory_spec.specs.how.Firsts.{Least}
 use Rattle.theory_spec.proofs.CheapestLaws.{cheapest-none, cheapest-least}
 use Rattle.model_spec.specs.Refusals.{Cause, firstRefusal, NonZero}
 use Rattle.model_spec.specs.Rules.{ruleCost, sequenceCost}

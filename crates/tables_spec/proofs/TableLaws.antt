@@ -15,7 +15,7 @@ use Rattle.theory_spec.specs.Lists.{every, flat, numbersFrom, same}
 use Rattle.theory_spec.specs.Sequences.{Sequence, Numbered, sequences}
 use Rattle.theory_spec.specs.Order.{Before}
 use Rattle.theory_spec.specs.how.Indices.{indexOf}
-use Rattle.theory_spec.specs.Pruning.{Justified}
+use Rattle.theory_spec.specs.how.Pruning.{Justified}
 use Rattle.theory_spec.proofs.ListLaws.{and-split, and-join, same-test, not-both, every-at, in-getD, in-numbersFrom, length-numbersFrom}
 use Rattle.theory_spec.proofs.TestLaws.{below?, equal?, ltb-iff, eqb-iff, same-iff, not-iff, and-iff, unless-iff, every-below-iff, any-below-iff}
 use Rattle.theory_spec.proofs.SequenceLaws.{of-sequences}

@@ -13,7 +13,8 @@ use borrow.Author.Tests.{leb-true, leb-false, ltb-true, ltb-false}
 use Rattle.theory_spec.specs.Lists.{_∈_, Pairwise}
 use Rattle.theory_spec.specs.Sequences.{Sequence, costOf}
 use Rattle.theory_spec.specs.Order.{Before}
-use Rattle.theory_spec.specs.Plans.{noDearer, cheaper, cheapest, Preferred, Least}
+use Rattle.theory_spec.specs.Plans.{noDearer, cheaper, cheapest, Preferred}
+use Rattle.theory_spec.specs.how.Firsts.{Least}
 use Rattle.theory_spec.proofs.ListLaws.{here, pairwise-behind, passes?}
 use Rattle.theory_spec.proofs.OrderLaws.{before-irrefl, before-trans}
 

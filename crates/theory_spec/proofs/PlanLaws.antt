@@ -14,8 +14,9 @@ use borrow.Author.Tests.{ltb-true, lt-ltb, eqb-true, eq-eqb, le-leb, ltb-false}
 use Rattle.theory_spec.specs.Lists.{_∈_, keep, keepIf, Pairwise, isSome}
 use Rattle.theory_spec.specs.Sequences.{Sequence, run, costOf, sequences, depthFirst}
 use Rattle.theory_spec.specs.Order.{LexBefore, Before}
-use Rattle.theory_spec.specs.Pruning.{Closed, Justified}
-use Rattle.theory_spec.specs.Plans.{reaches, isPlan, candidates, cheapest, Preferred, Least, allowed, isVisited, visited}
+use Rattle.theory_spec.specs.Plans.{reaches, isPlan, candidates, cheapest, Preferred, allowed, isVisited, visited}
+use Rattle.theory_spec.specs.how.Firsts.{Least}
+use Rattle.theory_spec.specs.how.Pruning.{Closed, Justified}
 use Rattle.theory_spec.specs.how.Recursion.{better, improved, best, isIn}
 use Rattle.theory_spec.proofs.ListLaws.{or-split, or-left, or-right, and-split, and-join, here, in-keep, of-keep, pairwise-keep, passes?, not-both}
 use Rattle.theory_spec.proofs.SequenceLaws.{of-sequences, in-sequences, of-depthFirst, in-depthFirst}

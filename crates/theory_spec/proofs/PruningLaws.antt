@@ -14,8 +14,10 @@ use borrow.Author.Tests.{leb-true, le-leb}
 use Rattle.theory_spec.specs.Lists.{_∈_, keep}
 use Rattle.theory_spec.specs.Sequences.{Sequence, andThen, run, costOf, Numbered, withFirst, sequences}
 use Rattle.theory_spec.specs.Order.{Before}
-use Rattle.theory_spec.specs.Pruning.{prefixes, segments, pruned, Closed, Redundant, Justified}
-use Rattle.theory_spec.specs.Plans.{endsIn, isPlan, candidates, cheapest, Preferred, Least}
+use Rattle.theory_spec.specs.Pruning.{prefixes, segments, pruned, Redundant}
+use Rattle.theory_spec.specs.Plans.{endsIn, isPlan, candidates, cheapest, Preferred}
+use Rattle.theory_spec.specs.how.Firsts.{Least}
+use Rattle.theory_spec.specs.how.Pruning.{Closed, Justified}
 use Rattle.theory_spec.proofs.ListLaws.{here, any-true, true-any, in-keep, of-keep, pairwise-keep, and-split, and-join}
 use Rattle.theory_spec.proofs.SequenceLaws.{of-withFirst, in-withFirst, run-split, run-join, cost-append, numbered-append, numbered-left, numbered-right, of-sequences, in-sequences}
 use Rattle.theory_spec.proofs.OrderLaws.{before-length, before-nested, sequences-ordered}

@@ -8,7 +8,8 @@ use Prim.Native.Nat.{ℕ, zero, suc, _+_, _≤_, _<_}
 use lib.Dec.{leb, ltb, eqb}
 use native.Mathlib.Omega.{arith}
 use borrow.Author.Tests.{leb-true, le-leb, ltb-true, ltb-false, lt-ltb, eqb-true, eqb-false, eq-eqb}
-use Rattle.theory_spec.specs.Lists.{_∈_, any, every, numbersFrom, within, same, firstThat}
+use Rattle.theory_spec.specs.Lists.{_∈_, any, every, numbersFrom, within, same}
+use Rattle.theory_spec.specs.how.Firsts.{firstThat}
 use Rattle.theory_spec.proofs.ListLaws.{not-both, and-split, and-join, every-at, true-every, any-true, true-any, of-numbersFrom, in-numbersFrom, same-true, same-refl}
 
 -- a number is below another or not

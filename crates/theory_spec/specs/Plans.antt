@@ -1,4 +1,5 @@
--- Plans over any transition system: the sequences that lead to a goal within both bounds, the cheapest of them, and the sequences that a pruned search visits.
+-- Plans over any transition system: the sequences that lead to a goal within both bounds, the cheapest of them, and the
+-- sequences that a pruned search visits.
 -- None of this depends on how a search goes about it.
 use mathlib.Core.Path.{_≡_}
 use mathlib.Core.Logic.{_⊎_}
@@ -7,7 +8,7 @@ use mathlib.Core.Option.{Option, some, none}
 use mathlib.Core.List.{List, [], _∷_}
 use Prim.Native.Nat.{ℕ, _<_}
 use lib.Dec.{leb}
-use Rattle.theory_spec.specs.Lists.{_∈_, keep, isSome}
+use Rattle.theory_spec.specs.Lists.{keep, isSome}
 use Rattle.theory_spec.specs.Sequences.{Sequence, run, costOf, sequences, depthFirst}
 use Rattle.theory_spec.specs.Order.{Before}
 use Rattle.theory_spec.specs.Pruning.{pruned}
@@ -47,18 +48,16 @@ cheapest cost (q ∷ qs) = cheaper cost q (cheapest cost qs)
 abbrev pub Preferred : (ℕ → ℕ) → Sequence → Sequence → Type 0
 Preferred cost p q = (costOf cost p < costOf cost q) ⊎ ((costOf cost p ≡ costOf cost q) × Before p q)
 
--- p is in the list and preferred to every other sequence of it
-abbrev pub Least : (ℕ → ℕ) → List Sequence → Sequence → Type 0
-Least cost l p = (p ∈ l) × ((q : Sequence) → q ∈ l → (q ≡ p) ⊎ Preferred cost p q)
-
 -- a sequence costs no more than the cost bound, and is not pruned (document 01: undropped)
 abbrev pub allowed : (ℕ → ℕ) → (Sequence → Bool) → ℕ → Sequence → Bool
 allowed cost marked maxCost q = leb (costOf cost q) maxCost && not (pruned marked q)
 
--- a visited sequence (document 01: walked): it can be run from the start, costs no more than the cost bound, and is not pruned
+-- a visited sequence (document 01: walked): it can be run from the start, costs no more than the cost bound, and is
+-- not pruned
 abbrev pub isVisited : {A : Type 0} → (ℕ → A → Option A) → (ℕ → ℕ) → (Sequence → Bool) → A → ℕ → Sequence → Bool
 isVisited step cost marked start maxCost q = isSome (run step q start) && allowed cost marked maxCost q
 
 -- the visited sequences within the move bound, in depth-first order
 abbrev pub visited : {A : Type 0} → (ℕ → A → Option A) → (ℕ → ℕ) → ℕ → (Sequence → Bool) → A → ℕ → ℕ → List Sequence
-visited step cost m marked start maxMoves maxCost = keep (isVisited step cost marked start maxCost) (depthFirst m maxMoves)
+visited step cost m marked start maxMoves maxCost =
+    keep (isVisited step cost marked start maxCost) (depthFirst m maxMoves)

@@ -1,2 +1,4 @@
+pub mod Firsts
 pub mod Indices
+pub mod Pruning
 pub mod Recursion

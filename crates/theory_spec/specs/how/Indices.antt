@@ -1,5 +1,6 @@
 -- The index of a sequence by arithmetic, the number (r₁ · m + r₂) · m + r₃ and so on, and back.
--- No promise of a call needs this file, only those of functions below the calls: document 01's index is a position in `sequences`, and the laws `index-at` and `sequence-at` say that the two are the same.
+-- No promise of a call needs this file, only those of functions below the calls: document 01's index is a position in
+-- `sequences`, and the laws `index-at` and `sequence-at` say that the two are the same.
 use mathlib.Core.List.{[], _∷_, _++_}
 use Prim.Native.Nat.{ℕ, zero, suc, _+_, _*_, _/_, _%_}
 use Rattle.theory_spec.specs.Sequences.{Sequence}
@@ -22,7 +23,8 @@ abbrev pub levelCount : ℕ → ℕ → ℕ
 levelCount m zero = 1
 levelCount m (suc n) = levelCount m n * m
 
--- the sequence of an index, of at most n rules: its last rule is the remainder of i - 1 by m, and 1; the rules before it have the quotient as their index
+-- the sequence of an index, of at most n rules: its last rule is the remainder of i - 1 by m, and 1; the rules before it
+-- have the quotient as their index
 abbrev pub sequenceOf : ℕ → ℕ → ℕ → Sequence
 sequenceOf m zero i = []
 sequenceOf m (suc n) zero = []

@@ -1,4 +1,5 @@
--- How a recursive search may go about it. No promise of a call needs this file, only those of functions below the calls; the laws in proofs/ equate it with `visited` and `cheapest`.
+-- How a recursive search may go about it. No promise of a call needs this file, only those of functions below the calls;
+-- the laws in proofs/ equate it with `visited` and `cheapest`.
 use mathlib.Core.Bool.{Bool, not, cond, _&&_, _||_}
 use mathlib.Core.Option.{Option, some, none}
 use mathlib.Core.List.{List, [], _∷_, _++_}
@@ -19,7 +20,8 @@ enter test (some t) visit = cond (test t) (visit t) []
 -- `may` tests whether it may go on to a sequence, which leads to a state
 abbrev pub explore : {A : Type 0} → (ℕ → A → Option A) → ℕ → (Sequence → A → Bool) → ℕ → Sequence → A → List Sequence
 explore step m may zero q s = q ∷ []
-explore step m may (suc n) q s = q ∷ flat (λ r. enter (may (q ++ (r ∷ []))) (step r s) (explore step m may n (q ++ (r ∷ [])))) (numbers m)
+explore step m may (suc n) q s =
+    q ∷ flat (λ r. enter (may (q ++ (r ∷ []))) (step r s) (explore step m may n (q ++ (r ∷ [])))) (numbers m)
 
 -- ── The test of one more rule ────────────────────────────────────────────────────────────────────
 
@@ -44,7 +46,9 @@ allowedNext cost marked maxCost n q = leb (costOf cost q) maxCost && not (any ma
 
 -- q replaces the best plan so far: it is cheaper, or costs the same and is shorter
 abbrev pub better : (ℕ → ℕ) → Sequence → Sequence → Bool
-better cost q p = ltb (costOf cost q) (costOf cost p) || (eqb (costOf cost q) (costOf cost p) && ltb (length q) (length p))
+better cost q p =
+    ltb (costOf cost q) (costOf cost p)
+    || (eqb (costOf cost q) (costOf cost p) && ltb (length q) (length p))
 
 -- the better of q and the best plan so far
 abbrev pub improved : (ℕ → ℕ) → Sequence → Option Sequence → Option Sequence
@@ -74,10 +78,14 @@ enterWith c test none visit = c
 enterWith c test (some t) visit = cond (test t) (visit t) c
 
 -- the search as a recursion that carries c along: `note` says what a sequence, which has led to a state, makes of it
-abbrev pub exploreWith : {A C : Type 0} → (ℕ → A → Option A) → ℕ → (Sequence → A → Bool) → (Sequence → A → C → C) → ℕ → Sequence → A → C → C
+abbrev pub exploreWith : {A C : Type 0} → (ℕ → A → Option A) → ℕ → (Sequence → A → Bool) → (Sequence → A → C → C)
+    → ℕ → Sequence → A → C → C
 exploreWith step m may note zero q s c = note q s c
 exploreWith step m may note (suc n) q s c =
-    foldOver (λ r c′. enterWith c′ (may (q ++ (r ∷ []))) (step r s) (λ t. exploreWith step m may note n (q ++ (r ∷ [])) t c′)) (note q s c) (numbers m)
+    foldOver
+    (λ r c′. enterWith c′ (may (q ++ (r ∷ []))) (step r s) (λ t. exploreWith step m may note n (q ++ (r ∷ [])) t c′))
+    (note q s c)
+    (numbers m)
 
 -- ── What lies beyond the limit ───────────────────────────────────────────────────────────────────
 
