@@ -1,4 +1,5 @@
--- Demand 2's second sentence, of what the calls give: a rule file read and written again in full is the same file, and a rule set written and read again is the same set.
+-- Demand 2's second sentence, of what the calls give: a rule file read and written again in full is the same file, and a
+-- rule set written and read again is the same set.
 -- Assumes nothing.
 use mathlib.Core.Path.{_≡_, sym, ap, subst, _∙_}
 use mathlib.Core.List.{List}
@@ -28,10 +29,11 @@ file-again text set room p h =
     let w = read-written text set p in
     let e = writes-iff set room .1 (w .0, subst (λ t. length t ≤ room) (sym (w .1)) h) in
     let t = file-text set room e ∙ w .1 in
-    (rw (e, t), ap (padded room 0) t)
+    (λ i. record { outcome = e i; length = length (t i) }, ap (padded room 0) t)
 
 -- a rule set written and read again is the same set: read what the buffer holds, as long as the writer says
-pub set-again : (set : RuleSet) (room : ℕ) → written set room .outcome ≡ 0 → ReadAs (take (written set room .length) (writtenBuffer set room)) set
+pub set-again : (set : RuleSet) (room : ℕ) → written set room .outcome ≡ 0
+    → ReadAs (take (written set room .length) (writtenBuffer set room)) set
 unfolding written writtenBuffer
 set-again set room e =
     let front = take-append-seam (writtenText set room) (replicate (room - length (writtenText set room)) 0) in
