@@ -18,7 +18,10 @@ same-entries-requires-2 c κs = search needs
 
 returns-2 : tie.Need-returns-2
 unfolding duplicate
-returns-2 c = rw (passed (c .before .before .before .before .before .before .same-entries .ensures) (c .before .before .before .before .before .if1 .left)) (c .same-entries2 .ensures)
+returns-2 c =
+    let copied = c .before .before in
+    let branch = copied .before .before .before in
+    rw (passed (branch .before .same-entries .ensures) (branch .if1 .left)) (c .same-entries2 .ensures)
 
 pub duplicate-spec : {M : Type 1} → statement M
 duplicate-spec =

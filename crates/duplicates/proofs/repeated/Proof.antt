@@ -34,6 +34,13 @@ loop-holds : tie.Need-loop-holds Inv-loop μ-loop
 unfolding repeated
 loop-holds c = (search needs, any-start (test (c .before .args .t1) (c .before .args .k)) (c .before .args .k))
 
+-- the loop's head, from a turn's call; and where the function starts, from the head
+abbrev headOf : tie.After-duplicate Inv-loop μ-loop → tie.At-loop Inv-loop μ-loop
+headOf c = c .before .before .before
+
+abbrev startOf : tie.At-loop Inv-loop μ-loop → tie.Start Inv-loop μ-loop
+startOf c = c .before .before
+
 mul-earlier : tie.Need-mul-earlier Inv-loop μ-loop
 mul-earlier c = search needs
 
@@ -45,8 +52,10 @@ duplicate-requires c κs = search needs
 
 returns : tie.Need-returns Inv-loop μ-loop
 returns c =
-    let s = c .before .before .before .before .before .before .args in
-    any-stop (test (s .t1) (s .k)) (c .before .before .before .before .loop .j) (s .k) _ (c .before .before .before .before .loop .inv .1) (omega arith) (sym (c .before .duplicate .ensures) ∙ c .if1 .taken)
+    let s = startOf (headOf (c .before)) .args in
+    let l = headOf (c .before) .loop in
+    any-stop (test (s .t1) (s .k)) (l .j) (s .k) _ (l .inv .1) (omega arith)
+    (sym (c .before .duplicate .ensures) ∙ c .if1 .taken)
 
 add-j : tie.Need-add-j Inv-loop μ-loop
 add-j c = search needs
@@ -56,13 +65,18 @@ loop-less c = search needs
 
 loop-again : tie.Need-loop-again Inv-loop μ-loop
 loop-again c =
-    let s = c .before .before .before .before .before .before .args in
-    (search needs, any-go (test (s .t1) (s .k)) (c .before .before .before .before .loop .j) (s .k) _ (c .before .before .before .before .loop .inv .1) (omega arith) (sym (c .before .duplicate .ensures) ∙ c .if1 .left))
+    let s = startOf (headOf (c .before)) .args in
+    let l = headOf (c .before) .loop in (
+      search needs,
+      any-go (test (s .t1) (s .k)) (l .j) (s .k) _ (l .inv .1) (omega arith)
+          (sym (c .before .duplicate .ensures) ∙ c .if1 .left),
+    )
 
 returns-2 : tie.Need-returns-2 Inv-loop μ-loop
 returns-2 c =
-    let s = c .before .before .before .args in
-    any-end (test (s .t1) (s .k)) (c .before .loop .j) (s .k) _ (c .before .loop .inv .1) (omega arith)
+    let s = startOf (c .before) .args in
+    let l = c .before .loop in
+    any-end (test (s .t1) (s .k)) (l .j) (s .k) _ (l .inv .1) (omega arith)
 
 pub repeated-spec : {M : Type 1} → statement M
 repeated-spec =

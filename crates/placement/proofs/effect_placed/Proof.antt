@@ -21,14 +21,29 @@ width-at-requires-2 c κs = search needs
 
 returns-2 : tie.Need-returns-2
 unfolding effectPlaced
-returns-2 c = rw (le-ltb _ _ (c .before .before .before .if1 .left), ← c .before .before .width-at .ensures, ← c .before .width-at2 .ensures, ne-eqb _ _ (c .if2 .taken))
+returns-2 c =
+    let widths = c .before in
+    rw (
+      le-ltb _ _ (widths .before .before .if1 .left),
+      ← widths .before .width-at .ensures,
+      ← widths .width-at2 .ensures,
+      ne-eqb _ _ (c .if2 .taken),
+    )
 
 entry-at-requires : tie.Need-entry-at-requires
 entry-at-requires c κs = search needs
 
 returns-3 : tie.Need-returns-3
 unfolding effectPlaced
-returns-3 c = rw (le-ltb _ _ (c .before .before .before .before .if1 .left), ← c .before .before .before .width-at .ensures, ← c .before .before .width-at2 .ensures, eq-eqb _ _ (c .before .if2 .left), c .entry-at .ensures)
+returns-3 c =
+    let widths = c .before .before in
+    rw (
+      le-ltb _ _ (widths .before .before .if1 .left),
+      ← widths .before .width-at .ensures,
+      ← widths .width-at2 .ensures,
+      eq-eqb _ _ (c .before .if2 .left),
+      c .entry-at .ensures,
+    )
 
 pub effect-placed-spec : {M : Type 1} → statement M
 effect-placed-spec =

@@ -1,4 +1,5 @@
--- `rule_arrays::conditions_of` meets its contract. The invariant: the first k places hold the conditions of their rules, the others still zeros.
+-- `rule_arrays::conditions_of` meets its contract. The invariant: the first places hold the conditions of their rules, the
+-- others still zeros.
 -- Assumes nothing.
 use mathlib.Core.Path.{_≡_, refl}
 use mathlib.Core.List.{map}
@@ -40,8 +41,9 @@ loop-less c = search needs
 
 loop-again : tie.Need-loop-again Inv-loop μ-loop
 loop-again c =
-    let start = c .before .before .before .before in
-    let l = c .before .before .before .loop in (
+    let head = c .before .before .before in
+    let start = head .before in
+    let l = head .loop in (
       search needs,
       row-more (λ rule. rule .condition) _ (start .args .t1 .rules) (l .i) (l .conditions) (l .inv .1) _
           (omega arith) (omega (arith, rules-31 (start .args .t1) _ (start .good .0))),

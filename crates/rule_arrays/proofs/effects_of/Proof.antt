@@ -1,4 +1,5 @@
--- `rule_arrays::effects_of` meets its contract. The invariant: the first k places hold the effects of their rules, the others still zeros.
+-- `rule_arrays::effects_of` meets its contract. The invariant: the first places hold the effects of their rules, the
+-- others still zeros.
 -- Assumes nothing.
 use mathlib.Core.Path.{_≡_, refl}
 use mathlib.Core.List.{map}
@@ -39,8 +40,9 @@ loop-less c = search needs
 
 loop-again : tie.Need-loop-again Inv-loop μ-loop
 loop-again c =
-    let start = c .before .before .before .before in
-    let l = c .before .before .before .loop in (
+    let head = c .before .before .before in
+    let start = head .before in
+    let l = head .loop in (
       search needs,
       row-more (λ rule. rule .effect) _ (start .args .t1 .rules) (l .j) (l .effects) (l .inv .1) _
           (omega arith) (omega (arith, rules-31 (start .args .t1) _ (start .good .0))),

@@ -7,19 +7,34 @@ use Rattle.model_spec.proofs.LoopLaws.{failed, passed}
 use Rattle.rule_validity.proofs.rule_valid.Statement.{statement}
 use Rattle.rule_validity.proofs.rule_valid.Tie as tie
 
+-- where the function starts, from its first call
+abbrev startOf : tie.After-condition-valid → tie.Start
+startOf c = let copied = c .before in copied .before .before .before
+
 condition-valid-requires : tie.Need-condition-valid-requires
 condition-valid-requires c κs = search needs
 
 returns : tie.Need-returns
 unfolding ruleValid
-returns c = rw (le-leb (c .before .before .before .before .before .args .rule .cost) 255 (search needs), failed (c .before .condition-valid .ensures) (c .if1 .taken))
+returns c =
+    let judged = c .before in
+    rw (
+      le-leb (startOf judged .args .rule .cost) 255 (search needs),
+      failed (judged .condition-valid .ensures) (c .if1 .taken),
+    )
 
 effect-valid-requires : tie.Need-effect-valid-requires
 effect-valid-requires c κs = search needs
 
 returns-2 : tie.Need-returns-2
 unfolding ruleValid
-returns-2 c = rw (le-leb (c .before .before .before .before .before .before .before .before .args .rule .cost) 255 (search needs), passed (c .before .before .before .before .condition-valid .ensures) (c .before .before .before .if1 .left)) (c .effect-valid .ensures)
+returns-2 c =
+    let branch = c .before .before .before in
+    let judged = branch .before in
+    rw (
+      le-leb (startOf judged .args .rule .cost) 255 (search needs),
+      passed (judged .condition-valid .ensures) (branch .if1 .left),
+    ) (c .effect-valid .ensures)
 
 pub rule-valid-spec : {M : Type 1} → statement M
 rule-valid-spec =

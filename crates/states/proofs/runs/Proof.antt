@@ -1,4 +1,5 @@
--- `states::runs` meets its contract. The invariant: what is left of the condition and the state from place i on decides the whole.
+-- `states::runs` meets its contract. The invariant: what is left of the condition and the state from place i on decides
+-- the whole.
 -- Assumes nothing.
 use mathlib.Core.Path.{_≡_, refl, sym, _∙_}
 use Prim.Native.Nat.{_≤_, _-_}
@@ -13,7 +14,9 @@ use Rattle.states.proofs.runs.Statement.{statement}
 use Rattle.states.proofs.runs.Tie as tie
 
 abbrev Inv-loop : tie.InvT-loop
-Inv-loop condition state entries held i₀ i = (i ≤ 16) × (same (map (λ e. valueOf e state) (drop i condition)) (drop i state) ≡ applicable condition state)
+Inv-loop condition state entries held i₀ i =
+    (i ≤ 16)
+    × (same (map (λ e. valueOf e state) (drop i condition)) (drop i state) ≡ applicable condition state)
 
 abbrev μ-loop : tie.MeasureT-loop
 μ-loop condition state entries held i₀ i = 16 - i
@@ -21,6 +24,13 @@ abbrev μ-loop : tie.MeasureT-loop
 loop-holds : tie.Need-loop-holds Inv-loop μ-loop
 unfolding applicable valuesOf
 loop-holds c = (search needs, refl)
+
+-- the loop's head, from a turn's call; and where the function starts, from the head
+abbrev headOf : tie.After-value Inv-loop μ-loop → tie.At-loop Inv-loop μ-loop
+headOf c = c .before .before .before
+
+abbrev startOf : tie.At-loop Inv-loop μ-loop → tie.Start Inv-loop μ-loop
+startOf c = c .before .before .before
 
 shared-slice-read-value : tie.Need-shared-slice-read-value Inv-loop μ-loop
 shared-slice-read-value c = search needs
@@ -33,8 +43,11 @@ shared-slice-read-if1 c = search needs
 
 returns : tie.Need-returns Inv-loop μ-loop
 returns c =
-    let s = c .before .before .before .before .before .before .before .before .args in
-    same-stop (λ e. valueOf e (s .state .now)) (s .condition .now) (s .state .now) (c .before .before .before .before .before .loop .i) _ (c .before .before .before .before .before .loop .inv .1) (omega arith) (omega arith) (λ e. c .if1 .taken (c .before .before .value .ensures ∙ e))
+    let valued = c .before .before in
+    let s = startOf (headOf valued) .args in
+    let l = headOf valued .loop in
+    same-stop (λ e. valueOf e (s .state .now)) (s .condition .now) (s .state .now) (l .i) _ (l .inv .1) (omega arith)
+    (omega arith) (λ e. c .if1 .taken (valued .value .ensures ∙ e))
 
 add-i : tie.Need-add-i Inv-loop μ-loop
 add-i c = search needs
@@ -44,13 +57,20 @@ loop-less c = search needs
 
 loop-again : tie.Need-loop-again Inv-loop μ-loop
 loop-again c =
-    let s = c .before .before .before .before .before .before .before .before .args in
-    (search needs, same-go (λ e. valueOf e (s .state .now)) (s .condition .now) (s .state .now) (c .before .before .before .before .before .loop .i) _ (c .before .before .before .before .before .loop .inv .1) (omega arith) (omega arith) (sym (c .before .before .value .ensures) ∙ c .if1 .left))
+    let valued = c .before .before in
+    let s = startOf (headOf valued) .args in
+    let l = headOf valued .loop in (
+      search needs,
+      same-go (λ e. valueOf e (s .state .now)) (s .condition .now) (s .state .now) (l .i) _ (l .inv .1) (omega arith)
+          (omega arith) (sym (valued .value .ensures) ∙ c .if1 .left),
+    )
 
 returns-2 : tie.Need-returns-2 Inv-loop μ-loop
 returns-2 c =
-    let s = c .before .before .before .before .args in
-    same-end (λ e. valueOf e (s .state .now)) (s .condition .now) (s .state .now) (c .before .loop .i) _ (c .before .loop .inv .1) (omega arith) (omega arith)
+    let s = startOf (c .before) .args in
+    let l = c .before .loop in
+    same-end (λ e. valueOf e (s .state .now)) (s .condition .now) (s .state .now) (l .i) _ (l .inv .1) (omega arith)
+    (omega arith)
 
 pub runs-spec : {M : Type 1} → statement M
 runs-spec =

@@ -1,4 +1,5 @@
--- `states::same_entries` meets its contract. The invariant: what is left of the two lists from place i on decides the whole.
+-- `states::same_entries` meets its contract. The invariant: what is left of the two lists from place i on decides the
+-- whole.
 -- Assumes nothing.
 use mathlib.Core.Path.{_≡_, ap}
 use Prim.Native.Nat.{_≤_, _-_}
@@ -22,6 +23,13 @@ loop-holds : tie.Need-loop-holds Inv-loop μ-loop
 loop-holds c =
     let s = c .before .before .args in (search needs, ap (λ l. same l (s .b .now)) (map-id (s .a .now)))
 
+-- the loop's head, from a turn's test; and where the function starts, from the head
+abbrev headOf : tie.After-shared-slice-known2 Inv-loop μ-loop → tie.At-loop Inv-loop μ-loop
+headOf c = c .before .before .before
+
+abbrev startOf : tie.At-loop Inv-loop μ-loop → tie.Start Inv-loop μ-loop
+startOf c = c .before .before .before
+
 shared-slice-read-if1 : tie.Need-shared-slice-read-if1 Inv-loop μ-loop
 shared-slice-read-if1 c = search needs
 
@@ -30,8 +38,10 @@ shared-slice-read-if1-2 c = search needs
 
 returns : tie.Need-returns Inv-loop μ-loop
 returns c =
-    let s = c .before .before .before .before .before .before .before .args in
-    same-stop (λ e. e) (s .a .now) (s .b .now) (c .before .before .before .before .loop .i) _ (c .before .before .before .before .loop .inv .1) (omega arith) (omega arith) (c .if1 .taken)
+    let head = headOf (c .before) in
+    let s = startOf head .args in
+    let l = head .loop in
+    same-stop (λ e. e) (s .a .now) (s .b .now) (l .i) _ (l .inv .1) (omega arith) (omega arith) (c .if1 .taken)
 
 add-i : tie.Need-add-i Inv-loop μ-loop
 add-i c = search needs
@@ -41,13 +51,18 @@ loop-less c = search needs
 
 loop-again : tie.Need-loop-again Inv-loop μ-loop
 loop-again c =
-    let s = c .before .before .before .before .before .before .before .args in
-    (search needs, same-go (λ e. e) (s .a .now) (s .b .now) (c .before .before .before .before .loop .i) _ (c .before .before .before .before .loop .inv .1) (omega arith) (omega arith) (c .if1 .left))
+    let head = headOf (c .before) in
+    let s = startOf head .args in
+    let l = head .loop in (
+      search needs,
+      same-go (λ e. e) (s .a .now) (s .b .now) (l .i) _ (l .inv .1) (omega arith) (omega arith) (c .if1 .left),
+    )
 
 returns-2 : tie.Need-returns-2 Inv-loop μ-loop
 returns-2 c =
-    let s = c .before .before .before .before .args in
-    same-end (λ e. e) (s .a .now) (s .b .now) (c .before .loop .i) _ (c .before .loop .inv .1) (omega arith) (omega arith)
+    let s = startOf (c .before) .args in
+    let l = c .before .loop in
+    same-end (λ e. e) (s .a .now) (s .b .now) (l .i) _ (l .inv .1) (omega arith) (omega arith)
 
 pub same-entries-spec : {M : Type 1} → statement M
 same-entries-spec =

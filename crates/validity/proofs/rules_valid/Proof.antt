@@ -21,13 +21,18 @@ loop-holds : tie.Need-loop-holds Inv-loop μ-loop
 unfolding rulesValid
 loop-holds c = (search needs, sized (c .args .set .rules) _ _ (rules-31 (c .args .set) _ (c .good .0)))
 
+-- the loop's head, from a turn's test
+abbrev headOf : tie.After-rule-valid-at Inv-loop μ-loop → tie.At-loop Inv-loop μ-loop
+headOf c = c .before .before
+
 rule-valid-at-requires : tie.Need-rule-valid-at-requires Inv-loop μ-loop
 rule-valid-at-requires c κs = search needs
 
 returns : tie.Need-returns Inv-loop μ-loop
 returns c =
-    let s = c .before .before .before .before .args in
-    every-stop (ruleValidAt (s .set)) (c .before .before .before .loop .k) 31 _ (c .before .before .before .loop .inv .1) (omega arith)
+    let head = headOf (c .before) in
+    let l = head .loop in
+    every-stop (ruleValidAt (head .before .args .set)) (l .k) 31 _ (l .inv .1) (omega arith)
     (failed (c .before .rule-valid-at .ensures) (c .if1 .taken))
 
 add-k : tie.Need-add-k Inv-loop μ-loop
@@ -38,16 +43,17 @@ loop-less c = search needs
 
 loop-again : tie.Need-loop-again Inv-loop μ-loop
 loop-again c =
-    let s = c .before .before .before .before .args in (
+    let head = headOf (c .before) in
+    let l = head .loop in (
       search needs,
-      every-go (ruleValidAt (s .set)) (c .before .before .before .loop .k) 31 _ (c .before .before .before .loop .inv .1) (omega arith)
+      every-go (ruleValidAt (head .before .args .set)) (l .k) 31 _ (l .inv .1) (omega arith)
           (passed (c .before .rule-valid-at .ensures) (c .if1 .left)),
     )
 
 returns-2 : tie.Need-returns-2 Inv-loop μ-loop
 returns-2 c =
-    let s = c .before .before .args in
-    every-end (ruleValidAt (s .set)) (c .before .loop .k) 31 _ (c .before .loop .inv .1) (omega arith)
+    let l = c .before .loop in
+    every-end (ruleValidAt (c .before .before .args .set)) (l .k) 31 _ (l .inv .1) (omega arith)
 
 pub rules-valid-spec : {M : Type 1} → statement M
 rules-valid-spec =
