@@ -34,8 +34,10 @@ returns-2 : tie.Need-returns-2
 unfolding withEntry
 returns-2 c =
     let second = c .before .before in
-    let first = second .before .before .before .before in
-    let a = first .before .before .before .before .args in
+    let after-first = second .before .before in
+    let first = after-first .before .before in
+    let branch = first .before .before in
+    let a = branch .before .before .args in
     second .put-byte2 .ensures ∙ rw (first .put-byte .ensures, lt-leb 32768 (a .index) (omega arith))
 
 pub put-entry-spec : {M : Type 1} → statement M

@@ -20,8 +20,9 @@ part-result-end c = search needs
 
 returns : tie.Need-returns
 returns c =
-    let a = c .before .before .before .before .args in
-    let place = place-whole (a .byte) (a .text .now) _ (c .before .before .find .ensures .0) in
+    let found = c .before .before in
+    let a = found .before .before .args in
+    let place = place-whole (a .byte) (a .text .now) _ (found .find .ensures .0) in
     behind-none (a .byte) (a .text .now) _ place (omega (arith, c .before .if1 .taken))
 
 add-result : tie.Need-add-result
@@ -38,8 +39,9 @@ part-result-end-2 c = search needs
 
 returns-2 : tie.Need-returns-2
 returns-2 c =
-    let a = c .before .before .before .before .args in
-    let place = place-whole (a .byte) (a .text .now) _ (c .before .before .find .ensures .0) in
+    let found = c .before .before in
+    let a = found .before .before .args in
+    let place = place-whole (a .byte) (a .text .now) _ (found .find .ensures .0) in
     behind-place (a .byte) (a .text .now) _ place
 
 pub behind-spec : {M : Type 1} → statement M

@@ -31,9 +31,13 @@ loop-holds c =
 same-length : tie.Need-same-length Inv-loop μ-loop
 same-length c = search needs
 
+-- where the function starts, from the loop's head
+abbrev startOf : tie.At-loop Inv-loop μ-loop → tie.Start Inv-loop μ-loop
+startOf c = c .before .before .before
+
 returns : tie.Need-returns Inv-loop μ-loop
 returns c =
-    let s = c .before .before .before .before .before .args in
+    let s = startOf (c .before .before) .args in
     let l = c .before .before .loop in
     let end : l .count ≡ length (s .input .now) = omega (arith, l .inv, c .if1 .taken) in
     (search needs, (end ∙ sym (min-eq-left (omega (arith, l .inv, end))), l .inv .3))
@@ -55,8 +59,9 @@ loop-less c = search needs
 
 loop-again : tie.Need-loop-again Inv-loop μ-loop
 loop-again c =
-    let s = c .before .before .before .before .before .before .before .args in
-    let l = c .before .before .before .before .loop in
+    let turn = c .before .before .before in
+    let s = startOf (turn .before) .args in
+    let l = turn .before .loop in
     let more : l .count < length (s .input .now) = omega arith in
     let room : l .count < length (s .text .now) = omega (arith, l .inv) in (
       simp length-set (l .inv .0),
@@ -70,7 +75,7 @@ same-length-2 c = search needs
 
 returns-2 : tie.Need-returns-2 Inv-loop μ-loop
 returns-2 c =
-    let s = c .before .before .before .before .args in
+    let s = startOf (c .before) .args in
     let l = c .before .loop in
     let end : l .count ≡ length (s .text .now) = omega (arith, l .inv) in
     (search needs, (end ∙ sym (min-eq-right (omega (arith, l .inv, end))), l .inv .3))

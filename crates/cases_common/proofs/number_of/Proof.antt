@@ -35,8 +35,9 @@ loop-less c = search needs
 
 loop-again : tie.Need-loop-again Inv-loop μ-loop
 loop-again c =
-    let text = c .before .before .before .before .before .args .text .now in
-    let l = c .before .before .before .loop in
+    let head = c .before .before .before in
+    let text = head .before .before .args .text .now in
+    let l = head .loop in
     ap (λ n. foldOver withDigit n (drop (l .i + 1) text)) (c .with-digit .ensures)
     ∙ number-more text (l .i) (l .number) (l .inv) (omega arith)
 

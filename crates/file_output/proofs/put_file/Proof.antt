@@ -67,17 +67,33 @@ put-number-line-requires-2 c κs = search needs
 put-rules-requires : tie.Need-put-rules-requires
 put-rules-requires c κs = search needs
 
+-- the calls in the order in which they lay their parts, from the last one back to the start
+abbrev countOf : tie.After-put-rules → tie.After-put-number-line2
+countOf c = let after-count = c .before .before in after-count .before .before
+
+abbrev sizesOf : tie.After-put-number-line2 → tie.After-put-numbers
+sizesOf c = let after-sizes = c .before .before .before in after-sizes .before .before .before
+
+abbrev keyOf : tie.After-put-numbers → tie.After-put-word
+keyOf c = let after-key = c .before .before .before in after-key .before .before .before
+
+abbrev positionsOf : tie.After-put-word → tie.After-put-number-line
+positionsOf c = let after-positions = c .before .before .before in after-positions .before .before
+
+abbrev startOf : tie.After-put-number-line → tie.Start
+startOf c = let copied = c .before .before .before in copied .before .before .before
+
 same-length : tie.Need-same-length
 same-length c = search needs
 
 returns : tie.Need-returns
 returns c =
     let rules = c .before .before in
-    let count = rules .before .before .before .before in
-    let sizes = count .before .before .before .before .before .before in
-    let key = sizes .before .before .before .before .before .before in
-    let positions = key .before .before .before .before .before in
-    let start = positions .before .before .before .before .before .before in
+    let count = countOf rules in
+    let sizes = sizesOf count in
+    let key = keyOf sizes in
+    let positions = positionsOf key in
+    let start = startOf positions in
     let set = start .args .set in
     rw (pieces set (positions-byte set _ (start .good .1 .0)) (count-byte set _ (start .good .1 .0)))
     (laid-append

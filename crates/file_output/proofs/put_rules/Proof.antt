@@ -73,14 +73,15 @@ loop-less c = search needs
 
 loop-again : tie.Need-loop-again Inv-loop μ-loop
 loop-again c =
-    let turn = c .before .before .before .before .before in
+    let put = c .before .before in
+    let turn = put .before .before .before in
     let l = turn .before .loop in
     let some = turn .before .before in
     let start = some .before .before in
     let set = start .args .t3 in
     let long = rules-31 set _ (start .good .1 .1 .0) in
     let next = one-more set (some .rules-shown .result) long (some .rules-shown .ensures) (l .k) (turn .loop-test .taken) in
-    (search needs, remains-rest (l .inv .1) _ _ next (c .before .before .put-rule .ensures))
+    (search needs, remains-rest (l .inv .1) _ _ next (put .put-rule .ensures))
 
 same-length : tie.Need-same-length Inv-loop μ-loop
 same-length c = remains-length (c .before .loop .inv .1)

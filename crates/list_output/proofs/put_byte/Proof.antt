@@ -14,8 +14,9 @@ same-length c = search needs
 
 returns : tie.Need-returns
 returns c =
-    let n = c .before .before .before .before .before .args .n in
-    rw (shown-number n (omega arith)) at (c .before .before .put-number .ensures)
+    let number = c .before .before in
+    let n = number .before .before .before .args .n in
+    rw (shown-number n (omega arith)) at (number .put-number .ensures)
 
 pub put-byte-spec : {M : Type 1} → statement M
 put-byte-spec = tie.close (tie.spec put-number-requires same-length returns)

@@ -14,8 +14,9 @@ same-length c = search needs
 
 returns : tie.Need-returns
 returns c =
-    let branch = c .before .before .before .before in
-    rw (constant-text (branch .before .before .args .entry) (branch .if1 .taken)) (c .before .before .put-byte .ensures)
+    let number = c .before .before in
+    let branch = number .before .before in
+    rw (constant-text (branch .before .before .args .entry) (branch .if1 .taken)) (number .put-byte .ensures)
 
 put-requires : tie.Need-put-requires
 put-requires c κs = search needs
@@ -32,7 +33,8 @@ same-length-2 c = search needs
 returns-2 : tie.Need-returns-2
 returns-2 c =
     let number = c .before .before in
-    let letter = number .before .before .before .before in
+    let after-letter = number .before .before in
+    let letter = after-letter .before .before in
     let branch = letter .before .before in
     rw (variable-text (branch .before .before .args .entry) (branch .if1 .left))
     (laid-append (letter .put .ensures) (number .put-byte2 .ensures))

@@ -24,6 +24,10 @@ abbrev μ-loop : tie.MeasureT-loop
 smaller-requires : tie.Need-smaller-requires Inv-loop μ-loop
 smaller-requires c κs = search needs
 
+-- where the function starts, from its first call
+abbrev startOf : tie.After-smaller Inv-loop μ-loop → tie.Start Inv-loop μ-loop
+startOf c = c .before .before .before
+
 put-requires : tie.Need-put-requires Inv-loop μ-loop
 put-requires c κs = search needs
 
@@ -34,13 +38,13 @@ returns : tie.Need-returns Inv-loop μ-loop
 returns c =
     let laid = c .before .before in
     let branch = laid .before .before in
-    let start = branch .before .before .before .before .args in
+    let start = startOf (branch .before) .args in
     let many = branch .before .smaller in
     rw (list-none numeral (start .numbers .now) (start .count) (many .result) (many .ensures) (omega arith)) (laid .put .ensures)
 
 loop-holds : tie.Need-loop-holds Inv-loop μ-loop
 loop-holds c =
-    let start = c .before .before .before .before .args in
+    let start = startOf (c .before) .args in
     let many = c .before .smaller in (
       search needs,
       rw (list-all numeral (start .numbers .now) (start .count) (many .result) (many .ensures) (c .if1 .left)) (remains-all _ _ _),
@@ -70,7 +74,8 @@ loop-less c = search needs
 loop-again : tie.Need-loop-again Inv-loop μ-loop
 loop-again c =
     let byte = c .before .before in
-    let item = byte .before .before .before .before .before in
+    let after-item = byte .before .before .before in
+    let item = after-item .before .before in
     let turn = item .before .before .before in
     let l = turn .before .loop in
     let some = turn .before .before .before in

@@ -32,9 +32,13 @@ cast-cost c = search needs
 add-total : tie.Need-add-total Inv-loop μ-loop
 add-total c = search needs
 
+-- the loop's head, from a turn's call
+abbrev headOf : tie.After-cost-at Inv-loop μ-loop → tie.At-loop Inv-loop μ-loop
+headOf c = c .before .before .before
+
 returns : tie.Need-returns Inv-loop μ-loop
 returns c =
-    let at = c .before .before .before .before in
+    let at = headOf (c .before) in
     let s = at .before .before .args in
     omega (arith, cost-go (s .set) (s .moves .now) (at .loop .i) _ refl (omega arith))
 
@@ -46,7 +50,7 @@ loop-less c = search needs
 
 loop-again : tie.Need-loop-again Inv-loop μ-loop
 loop-again c =
-    let at = c .before .before .before .before in
+    let at = headOf (c .before) in
     let s = at .before .before .args in
     let left = cost-go (s .set) (s .moves .now) (at .loop .i) _ refl (omega arith) in
     (search needs, search needs, omega arith)

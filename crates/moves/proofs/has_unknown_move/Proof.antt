@@ -23,15 +23,21 @@ loop-holds c = (search needs, refl)
 shared-slice-read-number : tie.Need-shared-slice-read-number Inv-loop μ-loop
 shared-slice-read-number c = search needs
 
+-- the loop's head, from a turn's read
+abbrev headOf : tie.After-shared-slice-known Inv-loop μ-loop → tie.At-loop Inv-loop μ-loop
+headOf c = c .before .before
+
 returns : tie.Need-returns Inv-loop μ-loop
 returns c =
-    let at = c .before .before .before in
-    unknown-found (at .before .args .count) (at .before .args .moves .now) (at .loop .i) _ (at .loop .inv .1) (omega arith) (λ w. omega arith)
+    let at = headOf (c .before) in
+    unknown-found (at .before .args .count) (at .before .args .moves .now) (at .loop .i) _ (at .loop .inv .1) (omega arith)
+    (λ w. omega arith)
 
 returns-2 : tie.Need-returns-2 Inv-loop μ-loop
 returns-2 c =
-    let at = c .before .before .before .before in
-    unknown-found (at .before .args .count) (at .before .args .moves .now) (at .loop .i) _ (at .loop .inv .1) (omega arith) (λ w. omega arith)
+    let at = headOf (c .before .before) in
+    unknown-found (at .before .args .count) (at .before .args .moves .now) (at .loop .i) _ (at .loop .inv .1) (omega arith)
+    (λ w. omega arith)
 
 add-i : tie.Need-add-i Inv-loop μ-loop
 add-i c = search needs
@@ -41,8 +47,11 @@ loop-less c = search needs
 
 loop-again : tie.Need-loop-again Inv-loop μ-loop
 loop-again c =
-    let at = c .before .before .before .before in
-    (search needs, unknown-go (at .before .args .count) (at .before .args .moves .now) (at .loop .i) _ (at .loop .inv .1) (omega arith) (omega arith) (omega arith))
+    let at = headOf (c .before .before) in
+    let s = at .before .args in (
+      search needs,
+      unknown-go (s .count) (s .moves .now) (at .loop .i) _ (at .loop .inv .1) (omega arith) (omega arith) (omega arith),
+    )
 
 returns-3 : tie.Need-returns-3 Inv-loop μ-loop
 returns-3 c =

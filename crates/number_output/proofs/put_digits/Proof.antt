@@ -14,8 +14,9 @@ same-length c = search needs
 
 returns : tie.Need-returns
 returns c =
-    let branch = c .before .before .before .before in
-    rw (numeral-one (branch .before .before .args .n) (branch .if1 .taken)) (c .before .before .put-digit .ensures)
+    let digit = c .before .before in
+    let branch = digit .before .before in
+    rw (numeral-one (branch .before .before .args .n) (branch .if1 .taken)) (digit .put-digit .ensures)
 
 put-digit-requires-2 : tie.Need-put-digit-requires-2
 put-digit-requires-2 c κs = search needs
@@ -29,9 +30,11 @@ same-length-2 c = search needs
 returns-2 : tie.Need-returns-2
 returns-2 c =
     let second = c .before .before in
-    let first = second .before .before .before .before in
+    let after-first = second .before .before in
+    let first = after-first .before .before in
     let branch = first .before .before in
-    rw (numeral-two (branch .before .before .before .args .n) (branch .before .if1 .left) (branch .if2 .taken)) (laid-append (first .put-digit2 .ensures) (second .put-digit3 .ensures))
+    rw (numeral-two (branch .before .before .before .args .n) (branch .before .if1 .left) (branch .if2 .taken))
+    (laid-append (first .put-digit2 .ensures) (second .put-digit3 .ensures))
 
 put-digit-requires-4 : tie.Need-put-digit-requires-4
 put-digit-requires-4 c κs = search needs
@@ -48,8 +51,10 @@ same-length-3 c = search needs
 returns-3 : tie.Need-returns-3
 returns-3 c =
     let third = c .before .before in
-    let second = third .before .before .before .before in
-    let first = second .before .before .before .before in
+    let after-second = third .before .before in
+    let second = after-second .before .before in
+    let after-first = second .before .before in
+    let first = after-first .before .before in
     let branch = first .before .before in
     rw (numeral-three (branch .before .before .before .args .n) (branch .if2 .left))
     (laid-append (laid-append (first .put-digit4 .ensures) (second .put-digit5 .ensures)) (third .put-digit6 .ensures))

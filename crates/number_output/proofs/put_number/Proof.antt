@@ -14,7 +14,9 @@ same-length : tie.Need-same-length
 same-length c = search needs
 
 returns : tie.Need-returns
-returns c = rw (c .before .before .before .before .smaller .ensures) at (c .before .before .put-digits .ensures)
+returns c =
+    let digits = c .before .before in
+    rw (digits .before .before .smaller .ensures) at (digits .put-digits .ensures)
 
 pub put-number-spec : {M : Type 1} → statement M
 put-number-spec = tie.close (tie.spec smaller-requires put-digits-requires same-length returns)

@@ -20,8 +20,10 @@ same-length c = search needs
 returns : tie.Need-returns
 returns c =
     let end = c .before .before in
-    let number = end .before .before .before .before in
-    let key = number .before .before .before .before in
+    let after-number = end .before .before in
+    let number = after-number .before .before in
+    let after-key = number .before .before in
+    let key = after-key .before .before in
     laid-append (laid-append (key .put-word .ensures) (number .put-number .ensures)) (end .put .ensures)
 
 pub put-number-line-spec : {M : Type 1} → statement M

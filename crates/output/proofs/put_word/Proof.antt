@@ -36,18 +36,25 @@ add-i c = search needs
 loop-less : tie.Need-loop-less Inv-loop μ-loop
 loop-less c = search needs
 
+-- where the function starts, from the loop's head
+abbrev startOf : tie.At-loop Inv-loop μ-loop → tie.Start Inv-loop μ-loop
+startOf c = c .before .before .before
+
 loop-again : tie.Need-loop-again Inv-loop μ-loop
 loop-again c =
-    let turn = c .before .before .before .before .before in
+    let put = c .before .before in
+    let turn = put .before .before .before in
     let l = turn .before .loop in
-    let word = turn .before .before .before .before .args .word .now in
-    (search needs, remains-rest (l .inv .1) _ _ (one-more word (l .i) (turn .loop-test .taken)) (c .before .before .put .ensures))
+    let word = startOf (turn .before) .args .word .now in
+    (search needs, remains-rest (l .inv .1) _ _ (one-more word (l .i) (turn .loop-test .taken)) (put .put .ensures))
 
 same-length : tie.Need-same-length Inv-loop μ-loop
 same-length c = remains-length (c .before .loop .inv .1)
 
 returns : tie.Need-returns Inv-loop μ-loop
-returns c = remains-none (c .before .loop .inv .1) (drop-of-length-le (c .before .before .before .before .args .word .now) (c .loop-test .left))
+returns c =
+    let word = startOf (c .before) .args .word .now in
+    remains-none (c .before .loop .inv .1) (drop-of-length-le word (c .loop-test .left))
 
 pub put-word-spec : {M : Type 1} → statement M
 put-word-spec =

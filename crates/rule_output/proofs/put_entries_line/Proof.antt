@@ -17,7 +17,8 @@ same-length c = search needs
 returns : tie.Need-returns
 returns c =
     let list = c .before .before in
-    let key = list .before .before .before .before in
+    let after-key = list .before .before in
+    let key = after-key .before .before in
     laid-append (key .put-word .ensures) (list .put-entries .ensures)
 
 pub put-entries-line-spec : {M : Type 1} → statement M

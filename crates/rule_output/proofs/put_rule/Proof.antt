@@ -55,15 +55,31 @@ slice-aggregate-put-entries-line-4 c = search needs
 put-entries-line-requires-2 : tie.Need-put-entries-line-requires-2
 put-entries-line-requires-2 c κs = search needs
 
+-- what is laid before the effect, before the condition, and where the function starts
+abbrev conditionOf : tie.After-put-entries-line2 → tie.After-put-entries-line
+conditionOf c =
+    let copied = c .before .before .before in
+    let after-condition = copied .before .before in
+    after-condition .before .before
+
+abbrev costOf : tie.After-put-entries-line → tie.After-put-number-line
+costOf c =
+    let copied = c .before .before .before in
+    let after-cost = copied .before .before in
+    after-cost .before .before
+
+abbrev startOf : tie.After-put-number-line → tie.Start
+startOf c = let arguments = c .before .before in arguments .before .before .before
+
 same-length : tie.Need-same-length
 same-length c = search needs
 
 returns : tie.Need-returns
 returns c =
     let effect = c .before .before in
-    let condition = effect .before .before .before .before .before .before .before in
-    let cost = condition .before .before .before .before .before .before .before in
-    let start = cost .before .before .before .before .before in
+    let condition = conditionOf effect in
+    let cost = costOf condition in
+    let start = startOf cost in
     let rule = start .args .rule in
     rw (pieces (start .args .positions) rule (cost-byte rule _ (start .good .1 .1 .0)))
     (laid-append

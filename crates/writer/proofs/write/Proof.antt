@@ -26,11 +26,13 @@ use Rattle.writer.proofs.write.Tie as tie
 
 -- the answer and the buffer, by the causes
 module _ (set : RuleSet) (room : ℕ) where
-  not-valid : valid set ≡ false → (record { outcome = 7; length = 0 } ≡ written set room) × (padded room 0 [] ≡ writtenBuffer set room)
+  not-valid : valid set ≡ false
+      → (record { outcome = 7; length = 0 } ≡ written set room) × (padded room 0 [] ≡ writtenBuffer set room)
   unfolding written writtenBuffer writtenText writeCauses
   not-valid t = rw t (refl, refl)
 
-  no-room : valid set ≡ true → room < length (render set) → (record { outcome = 8; length = 0 } ≡ written set room) × (padded room 0 [] ≡ writtenBuffer set room)
+  no-room : valid set ≡ true → room < length (render set)
+      → (record { outcome = 8; length = 0 } ≡ written set room) × (padded room 0 [] ≡ writtenBuffer set room)
   unfolding written writtenBuffer writtenText writeCauses
   no-room t h = rw (t, lt-ltb room (length (render set)) h) (refl, refl)
 
@@ -40,8 +42,17 @@ module _ (set : RuleSet) (room : ℕ) where
   fits end t e h = rw (t, le-ltb room (length (render set)) (omega arith), e) (refl, refl)
 
   -- which has its meaning
-  answers : (r : Written) (out : List ℕ) → r ≡ written set room → out ≡ writtenBuffer set room → (r ≡ written set room) × (out ≡ writtenBuffer set room) × WriteMeaning set room r out
-  answers r out e t = (e, t, subst (WriteMeaning set room r) (sym t) (subst (λ q. WriteMeaning set room q (writtenBuffer set room)) (sym e) (write-meaning set room)))
+  answers : (r : Written) (out : List ℕ) → r ≡ written set room → out ≡ writtenBuffer set room
+      → (r ≡ written set room) × (out ≡ writtenBuffer set room) × WriteMeaning set room r out
+  answers r out e t = (e, t, rw (e, t) (write-meaning set room))
+
+-- where the function starts, from the test of the set
+abbrev startOf : tie.After-is-valid → tie.Start
+startOf c = c .before .before
+
+-- the call that lays the file, from the test of the buffer's length
+abbrev fileOf : tie.After-slice-known3 → tie.After-put-file
+fileOf c = c .before .before
 
 is-valid-requires : tie.Need-is-valid-requires
 is-valid-requires c κs = search needs
@@ -54,10 +65,11 @@ same-length c = search needs
 
 returns : tie.Need-returns
 returns c =
-    let branch = c .before .before .before .before in
-    let s = branch .before .before .before .args in
+    let filled = c .before .before in
+    let branch = filled .before .before in
+    let s = startOf (branch .before) .args in
     let w = not-valid (s .set) (length (s .text .now)) (failed (branch .before .is-valid .ensures .0) (branch .if1 .taken)) in
-    answers (s .set) (length (s .text .now)) _ _ (w .0) (c .before .before .fill-from .ensures ∙ zeros-whole _ ∙ w .1)
+    answers (s .set) (length (s .text .now)) _ _ (w .0) (filled .fill-from .ensures ∙ zeros-whole _ ∙ w .1)
 
 put-file-requires : tie.Need-put-file-requires
 put-file-requires c κs = search needs
@@ -70,9 +82,10 @@ same-length-2 c = search needs
 
 returns-2 : tie.Need-returns-2
 returns-2 c =
-    let file = c .before .before .before .before .before .before .before in
+    let filled = c .before .before in
+    let file = fileOf (filled .before .before .before) in
     let branch = file .before .before in
-    let s = branch .before .before .before .args in
+    let s = startOf (branch .before) .args in
     let room = length (s .text .now) in
     let t = passed (branch .before .is-valid .ensures .0) (branch .if1 .left) in
     let laid = file .put-file .ensures in
@@ -80,7 +93,7 @@ returns-2 c =
     let end = laid-end laid (omega (arith, render-bound (s .set) t)) in
     let w = no-room (s .set) room t (omega arith) in
     answers (s .set) room _ _ (w .0)
-    (c .before .before .fill-from2 .ensures ∙ zeros-whole _ ∙ ap (λ n. padded n 0 []) same ∙ w .1)
+    (filled .fill-from2 .ensures ∙ zeros-whole _ ∙ ap (λ n. padded n 0 []) same ∙ w .1)
 
 fill-from-requires-3 : tie.Need-fill-from-requires-3
 fill-from-requires-3 c κs = search needs
@@ -90,9 +103,10 @@ same-length-3 c = search needs
 
 returns-3 : tie.Need-returns-3
 returns-3 c =
-    let file = c .before .before .before .before .before .before .before in
+    let filled = c .before .before in
+    let file = fileOf (filled .before .before .before) in
     let branch = file .before .before in
-    let s = branch .before .before .before .args in
+    let s = startOf (branch .before) .args in
     let room = length (s .text .now) in
     let t = passed (branch .before .is-valid .ensures .0) (branch .if1 .left) in
     let laid = file .put-file .ensures in
@@ -100,7 +114,7 @@ returns-3 c =
     let low : length (render (s .set)) ≤ lastPlace = omega (arith, render-bound (s .set) t) in
     let end = laid-end laid low in
     let w = fits (s .set) room (file .put-file .result) t end (omega arith) in
-    answers (s .set) room _ _ (w .0) (c .before .before .fill-from3 .ensures ∙ zeros-laid laid low (omega arith) ∙ w .1)
+    answers (s .set) room _ _ (w .0) (filled .fill-from3 .ensures ∙ zeros-laid laid low (omega arith) ∙ w .1)
 
 pub write-spec : {M : Type 1} → statement M
 write-spec =
