@@ -1,6 +1,6 @@
--- Outcomes 1, 2 and 3 as statements, beside the reader. The text has a faultless front, and then, where a key or an item
--- is due: no such key, or no item with the byte that ends it (1); an item outside its limit (2); an item within its limit
--- and out of place (3). What stands after it does not matter. Bytes left over after the whole file are 1.
+-- Outcomes 1, 2 and 3 as statements, beside the reader. The text has a faultless front, and then, where a key or an
+-- item is due: no such key, or no item with the byte that ends it (1); an item outside its limit (2); an item within
+-- its limit and out of place (3). What stands after it does not matter. Bytes left over after the whole file are 1.
 use mathlib.Core.Path.{_≡_}
 use mathlib.Core.Bool.{Bool, true, false, _&&_}
 use mathlib.Core.List.{List, [], _∷_, _++_, map}
@@ -117,8 +117,8 @@ pub data RuleFault (n positions : ℕ) (sizes text : List ℕ) : Type 0 where
   inEffect : (cost : ℕ) (condition tail : List ℕ) → cost ≤ 255 → conditionValid positions sizes condition ≡ true
       → text ≡ line "cost=" (numeral cost ∷ []) ++ (line "if=" (map entryText (take positions condition)) ++ tail)
       → LineFault n "then="
-      (ListFault entryText (effectFaultless positions sizes condition) (EffectFault n positions sizes condition) positions)
-      tail
+      (ListFault entryText
+      (effectFaultless positions sizes condition) (EffectFault n positions sizes condition) positions) tail
       → RuleFault n positions sizes text
 
 -- in the file: n is 1, 2 or 3

@@ -1,5 +1,5 @@
--- One way to an outcome: each call on a rule set has a list of causes in document 01's order, each with its number and a
--- test, and the first that holds is the answer.
+-- One way to an outcome: each call on a rule set has a list of causes in document 01's order, each with its number and
+-- a test, and the first that holds is the answer.
 use mathlib.Core.Path.{_≡_}
 use mathlib.Core.Logic.{_≢_}
 use mathlib.Core.Bool.{Bool, true, false}

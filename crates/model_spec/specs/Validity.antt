@@ -137,7 +137,8 @@ pub record WellFormed (set : RuleSet) : Type 0 where
   pub rulesLength : length (set .rules) ≡ 31
   pub costLimits : (k : ℕ) → k < set .count → getD (set .rules) k noRule .cost ≤ 255
   pub lines : (k : ℕ) → k < set .count
-      → (let rule = getD (set .rules) k noRule in LinesValid (set .positions) (set .sizes) (rule .condition) (rule .effect))
+      → (let rule = getD (set .rules) k noRule in
+      LinesValid (set .positions) (set .sizes) (rule .condition) (rule .effect))
   pub rulesBeyond : (k : ℕ) → set .count ≤ k → k < 31 → getD (set .rules) k noRule ≡ blankRule
 
 -- the set is valid (document 01: sound)

@@ -11,8 +11,8 @@ pub struct Rule {
     pub effect: [u8; 16],
 }
 
-// A rule set: `positions` sizes and `count` rules are used. A valid one is zero in every place beyond them; a caller may
-// pass any.
+// A rule set: `positions` sizes and `count` rules are used. A valid one is zero in every place beyond them; a caller
+// may pass any.
 pub struct RuleSet {
     pub positions: u8,
     pub sizes: [u8; 16],

@@ -23,8 +23,8 @@ abbrev pub levelCount : ℕ → ℕ → ℕ
 levelCount m zero = 1
 levelCount m (suc n) = levelCount m n * m
 
--- the sequence of an index, of at most n rules: its last rule is the remainder of i - 1 by m, and 1; the rules before it
--- have the quotient as their index
+-- the sequence of an index, of at most n rules: its last rule is the remainder of i - 1 by m, and 1; the rules before
+-- it have the quotient as their index
 abbrev pub sequenceOf : ℕ → ℕ → ℕ → Sequence
 sequenceOf m zero i = []
 sequenceOf m (suc n) zero = []

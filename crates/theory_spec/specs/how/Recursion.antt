@@ -1,5 +1,5 @@
--- How a recursive search may go about it. No promise of a call needs this file, only those of functions below the calls;
--- the laws in proofs/ equate it with `visited` and `cheapest`.
+-- How a recursive search may go about it. No promise of a call needs this file, only those of functions below the
+-- calls; the laws in proofs/ equate it with `visited` and `cheapest`.
 use mathlib.Core.Bool.{Bool, not, cond, _&&_, _||_}
 use mathlib.Core.Option.{Option, some, none}
 use mathlib.Core.List.{List, [], _∷_, _++_}
