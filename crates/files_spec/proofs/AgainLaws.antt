@@ -1,5 +1,5 @@
--- Demand 2's second sentence, of what the calls give: a rule file read and written again in full is the same file, and a
--- rule set written and read again is the same set.
+-- Demand 2's second sentence, of what the calls give: a rule file read and written again in full is the same file, and
+-- a rule set written and read again is the same set.
 -- Assumes nothing.
 use mathlib.Core.Path.{_≡_, sym, ap, subst, _∙_}
 use mathlib.Core.List.{List}

@@ -30,14 +30,14 @@ headOf c = c .before .before
 returns : tie.Need-returns Inv-loop μ-loop
 returns c =
     let at = headOf (c .before) in
-    unknown-found (at .before .args .count) (at .before .args .moves .now) (at .loop .i) _ (at .loop .inv .1) (omega arith)
-    (λ w. omega arith)
+    let s = at .before .args in
+    unknown-found (s .count) (s .moves .now) (at .loop .i) _ (at .loop .inv .1) (omega arith) (λ w. omega arith)
 
 returns-2 : tie.Need-returns-2 Inv-loop μ-loop
 returns-2 c =
     let at = headOf (c .before .before) in
-    unknown-found (at .before .args .count) (at .before .args .moves .now) (at .loop .i) _ (at .loop .inv .1) (omega arith)
-    (λ w. omega arith)
+    let s = at .before .args in
+    unknown-found (s .count) (s .moves .now) (at .loop .i) _ (at .loop .inv .1) (omega arith) (λ w. omega arith)
 
 add-i : tie.Need-add-i Inv-loop μ-loop
 add-i c = search needs

@@ -1,5 +1,5 @@
--- `rule_arrays::conditions_of` meets its contract. The invariant: the first places hold the conditions of their rules, the
--- others still zeros.
+-- `rule_arrays::conditions_of` meets its contract. The invariant: the first places hold the conditions of their rules,
+-- the others still zeros.
 -- Assumes nothing.
 use mathlib.Core.Path.{_≡_, refl}
 use mathlib.Core.List.{map}

@@ -1,7 +1,7 @@
 -- `writer::write` meets its contract. Each way out has one cause or none, and zeros after what was laid; the place after
 -- a valid set's file is the file's length. What is left has its meaning.
 -- Assumes nothing.
-use mathlib.Core.Path.{_≡_, refl, sym, ap, subst, _∙_}
+use mathlib.Core.Path.{_≡_, refl, ap, _∙_}
 use mathlib.Core.Bool.{true, false}
 use mathlib.Core.List.{List, []}
 use Prim.Native.Nat.{ℕ, _≤_, _<_}
@@ -68,8 +68,9 @@ returns c =
     let filled = c .before .before in
     let branch = filled .before .before in
     let s = startOf (branch .before) .args in
-    let w = not-valid (s .set) (length (s .text .now)) (failed (branch .before .is-valid .ensures .0) (branch .if1 .taken)) in
-    answers (s .set) (length (s .text .now)) _ _ (w .0) (filled .fill-from .ensures ∙ zeros-whole _ ∙ w .1)
+    let room = length (s .text .now) in
+    let w = not-valid (s .set) room (failed (branch .before .is-valid .ensures .0) (branch .if1 .taken)) in
+    answers (s .set) room _ _ (w .0) (filled .fill-from .ensures ∙ zeros-whole _ ∙ w .1)
 
 put-file-requires : tie.Need-put-file-requires
 put-file-requires c κs = search needs
