@@ -1,6 +1,6 @@
 // Composition: the vectors of a sequence, rule after rule. Document 01 asks for entry arrays of sixteen that go in and
-// come back by value, without a lent buffer; so `value_in` and `followed` do by value what `states`' `value` and `after`
-// do on arrays that are lent.
+// come back by value, without a lent buffer; so `value_in` and `followed` do by value what `states`' `value` and
+// `after` do on arrays that are lent.
 use macros_spec::Vectors;
 use model_spec::Rule;
 use model_spec::RuleSet;
@@ -10,7 +10,10 @@ ghost use mathlib.Core.Option.{some, none};
 ghost use Prim.Native.Nat.{min, max, _+_, _<_};
 ghost use lib.Dec.{ltb};
 ghost use Rattle.model_spec.specs.States.{valueOf, valuesOf};
-ghost use Rattle.macros_spec.specs.Composition.{ownVariables, emptyLines, replaced, unified, extended, asVectors, linesOf};
+ghost use Rattle.model_spec.specs.Validity.{Valid};
+ghost use Rattle.macros_spec.specs.Composition.{ownVariables, emptyLines, replaced, unified, extended};
+ghost use Rattle.macros_spec.specs.Composition.{asVectors, linesOf};
+ghost use Rattle.macros_spec.specs.VectorMeaning.{EmptyMeaning, ExtendedMeaning};
 
 // The larger of two entries.
 fn larger(x: u8, y: u8) -> u8
@@ -63,7 +66,8 @@ fn denied() -> Vectors
     }
 }
 
-// Place by place, what the effect holds made equal to what the next condition asks, both read in the effect as it now stands. Nothing is replaced where the two agree.
+// Place by place, what the effect holds made equal to what the next condition asks, both read in the effect as it now
+// stands. Nothing is replaced where the two agree.
 fn unified(condition: [u8; 16], effect: [u8; 16], asked: [u8; 16]) -> Vectors
     ensures { λ r. ⌜ r ≡ asVectors (unified asked 0 (record { condition = condition; effect = effect })) ⌝ }
 {
@@ -108,7 +112,9 @@ fn followed(effect: [u8; 16], entries: [u8; 16]) -> [u8; 16]
 
 // A rule after a sequence; one that no state admits stays so.
 pub fn extended(sequence: Vectors, rule: Rule) -> Vectors
-    ensures { λ r. ⌜ r ≡ asVectors (extended rule (linesOf sequence)) ⌝ }
+    ensures { λ r. ⌜
+        (r ≡ asVectors (extended rule (linesOf sequence)))
+        × ExtendedMeaning sequence rule r ⌝ }
 {
     if !sequence.admitted {
         return denied();
@@ -157,7 +163,9 @@ fn own_variables(positions: u8) -> [u8; 16]
 
 // The empty sequence.
 pub fn empty(set: RuleSet) -> Vectors
-    ensures { λ r. ⌜ r ≡ asVectors (some (emptyLines set)) ⌝ }
+    ensures { λ r. ⌜
+        (r ≡ asVectors (some (emptyLines set)))
+        × (Valid set → EmptyMeaning set r) ⌝ }
 {
     let condition = own_variables(set.positions);
     let effect = condition;

@@ -28,8 +28,8 @@ use Rattle.macros_spec.proofs.VectorLaws.{values-values}
 use Rattle.macros_spec.proofs.CanonicalForm.{Canonical}
 use Rattle.macros_spec.proofs.DistinctLaws.{vectors-equal, values-equal}
 use Rattle.macros_spec.proofs.RunLaws.{run-first-iff}
-use Rattle.macros_spec.proofs.ExtensionLaws.{lines-vectors}
 use Rattle.macros_spec.proofs.MeaningLaws.{rule-canonical, composed-canonical, composed-means, denied-iff}
+use Rattle.macros_spec.proofs.VectorMeaningLaws.{mean-vectors}
 
 -- ── Runs on vectors ──────────────────────────────────────────────────────────────────────────────
 
@@ -123,8 +123,8 @@ module _ (set : RuleSet) (valid : WellFormed set) (b a : Sequence) (nb : Numbere
       same-test (redundantByLines set (composed set b) (sequenceCost set b) a) (redundant set b a) (λ e. redundant-iff set b a .1 (redundant-by-lines-iff .0 e))
       (λ e. redundant-by-lines-iff .1 (redundant-iff set b a .0 e))
 
--- so the test tells of the vectors and the cost of a sequence, as the code keeps them
-pub test-tells : (set : RuleSet) (vectors : Vectors) (cost : ℕ) (a : Sequence) → TellsRedundancy set vectors cost a (redundantByLines set (linesOf vectors) cost a)
-test-tells set vectors cost a b valid nb na ev ec =
-    let lines : linesOf vectors ≡ composed set b = ap linesOf ev ∙ lines-vectors (composed set b) in
-    rw (lines, ec) (redundant-by-lines-iff set (valid .formed) b a nb na)
+-- so the test tells of vectors that mean a sequence, and of its cost, as the code keeps them
+pub test-tells : (set : RuleSet) (vectors : Vectors) (cost : ℕ) (a : Sequence)
+    → TellsRedundancy set vectors cost a (redundantByLines set (linesOf vectors) cost a)
+test-tells set vectors cost a b valid nb na mean ec =
+    rw (mean-vectors set (valid .formed) b nb vectors mean, ec) (redundant-by-lines-iff set (valid .formed) b a nb na)

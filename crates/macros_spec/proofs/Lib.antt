@@ -16,3 +16,4 @@ pub mod MoveLoopLaws
 pub mod RunLaws
 pub mod UniqueLaws
 pub mod VectorLaws
+pub mod VectorMeaningLaws

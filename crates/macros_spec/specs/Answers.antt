@@ -18,9 +18,14 @@ use Rattle.macros_spec.specs.Composition.{Lines, composed}
 use Rattle.macros_spec.specs.declared.Macro.{Macro}
 use Rattle.macros_spec.specs.declared.MacroAnswer.{MacroAnswer}
 
--- the causes of the macro call once the set is judged: more than 32 moves; a move that is no rule's number; no state admits the sequence
+-- the causes of the macro call once the set is judged: more than 32 moves; a move that is no rule's number; no state
+-- admits the sequence
 abbrev pub sequenceCauses : RuleSet → List ℕ → List Cause
-sequenceCauses set moves = (11, ltb 32 (length moves)) ∷ (13, any (λ r. not (within 1 (set .count) r)) moves) ∷ (17, not (admitted set moves)) ∷ []
+sequenceCauses set moves =
+    (11, ltb 32 (length moves))
+    ∷ (13, any (λ r. not (within 1 (set .count) r)) moves)
+    ∷ (17, not (admitted set moves))
+    ∷ []
 
 -- for any set: first, that it is not valid
 unfoldable pub macroCauses : RuleSet → List ℕ → List Cause
@@ -37,7 +42,10 @@ macroAt cost (some m) = record { condition = m .condition; effect = m .effect; c
 
 -- the answer with an outcome: the sequence's vectors at its summed cost, or zeros when refused
 abbrev pub macroWith : RuleSet → List ℕ → ℕ → MacroAnswer
-macroWith set moves outcome = record { outcome = outcome; result = cond (eqb outcome 0) (macroAt (sequenceCost set moves) (composed set moves)) blankMacro }
+macroWith set moves outcome = record {
+  outcome = outcome;
+  result = cond (eqb outcome 0) (macroAt (sequenceCost set moves) (composed set moves)) blankMacro;
+}
 
 -- the answer
 unfoldable pub macroAnswer : RuleSet → List ℕ → MacroAnswer
@@ -45,10 +53,12 @@ macroAnswer set moves = macroWith set moves (firstRefusal (macroCauses set moves
 
 -- ── What a macro means, over all states of the sizes ─────────────────────────────────────────────
 
--- the macro of a sequence: it has the form of a rule's lines, it runs from exactly the states where the sequence's rules run in turn, to the same state, at their summed cost
+-- the macro of a sequence: it has the form of a rule's lines, it runs from exactly the states where the sequence's rules
+-- run in turn, to the same state, at their summed cost
 pub record Means (set : RuleSet) (q : Sequence) (m : Macro) : Type 0 where
   pub form : LinesValid (set .positions) (set .sizes) (m .condition) (m .effect)
-  pub runsWhere : (s : State) → StateOf set s → (applicable (m .condition) s ≡ true) ↔ ((t : State) × (runIn set q s ≡ some t))
+  pub runsWhere : (s : State) → StateOf set s
+      → (applicable (m .condition) s ≡ true) ↔ ((t : State) × (runIn set q s ≡ some t))
   pub leadsTo : (s t : State) → StateOf set s → runIn set q s ≡ some t → successor (m .effect) s ≡ t
   pub costs : m .cost ≡ sequenceCost set q
 
@@ -60,11 +70,13 @@ Denied set q = (s : State) → StateOf set s → runIn set q s ≡ none
 abbrev pub Admitted : RuleSet → Sequence → Type 0
 Admitted set q = (s : State) × (t : State) × StateOf set s × (runIn set q s ≡ some t)
 
--- what is judged before the sequence's states: the set is valid, there are at most 32 moves, and each is a rule's number
+-- what is judged before the sequence's states: the set is valid, there are at most 32 moves, and each is a rule's
+-- number
 abbrev pub Judged : RuleSet → Sequence → Type 0
 Judged set moves = Valid set × ((length moves ≤ 32) × Numbered (set .count) moves)
 
--- what an answer tells: each number exactly if its cause holds and none before it does, 0 exactly if none holds; what the macro means; what it costs at most; and what a refusal leaves
+-- what an answer tells: each number exactly if its cause holds and none before it does, 0 exactly if none holds; what
+-- the macro means; what it costs at most; and what a refusal leaves
 pub record Meaning (set : RuleSet) (moves : Sequence) (answer : MacroAnswer) : Type 0 where
   pub notValid : (answer .outcome ≡ 7) ↔ (Valid set → ⊥)
   pub tooLong : (answer .outcome ≡ 11) ↔ (Valid set × (32 < length moves))

@@ -1,5 +1,6 @@
 -- Composition of macros: the condition and the effect of a sequence, as two vectors in the form of a rule's lines.
--- This is source document 003 with two faults mended: its case 2(b), and its reading of effects as they stood before a replacement (docs/DECISIONS.md).
+-- This is source document 003 with two faults mended: its case 2(b), and its reading of effects as they stood before a
+-- replacement (docs/DECISIONS.md).
 use mathlib.Core.Bool.{Bool, true, false, not, cond, _&&_}
 use mathlib.Core.Option.{Option, some, none}
 use mathlib.Core.List.{List, [], _∷_, map}
@@ -34,17 +35,20 @@ replaced from to entries = map (λ e. cond (eqb e from) to e) entries
 unfoldable pub clash : ℕ → ℕ → Bool
 clash x y = isConstant x && (isConstant y && not (eqb x y))
 
--- two entries made equal throughout a vector: the larger is replaced by the smaller, so a variable gives way to a constant and a higher variable to a lower
+-- two entries made equal throughout a vector: the larger is replaced by the smaller, so a variable gives way to a
+-- constant and a higher variable to a lower
 unfoldable pub equated : ℕ → ℕ → List ℕ → List ℕ
 equated x y entries = replaced (max x y) (min x y) entries
 
--- from place i on, what the effect holds is made equal to what the next rule's condition asks, both read in the effect as it now stands; none where two constants clash
+-- from place i on, what the effect holds is made equal to what the next rule's condition asks, both read in the effect
+-- as it now stands; none where two constants clash
 unfoldable pub unified : List ℕ → ℕ → Lines → Option Lines
 unified [] i m = some m
 unified (e ∷ asked) i m =
     let have = getD (m .effect) i 0 in
     let want = valueOf e (m .effect) in
-    cond (clash have want) none (unified asked (suc i) (record { condition = equated have want (m .condition); effect = equated have want (m .effect) }))
+    let next : Lines = record { condition = equated have want (m .condition); effect = equated have want (m .effect) } in
+    cond (clash have want) none (unified asked (suc i) next)
 
 -- the next rule's effect follows
 unfoldable pub followed : Rule → Option Lines → Option Lines

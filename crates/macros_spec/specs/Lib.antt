@@ -1,3 +1,4 @@
 pub mod Composition
 pub mod Answers
 pub mod Redundancy
+pub mod VectorMeaning

@@ -1,5 +1,5 @@
--- Redundancy decided on vectors: b is redundant with a exactly if a costs no more, and either no state admits b, or a's rules run in turn on b's condition, as on a state of
--- entries, and end in b's effect. No macro of a is composed.
+-- Redundancy decided on vectors: b is redundant with a exactly if a costs no more, and either no state admits b, or a's
+-- rules run in turn on b's condition, as on a state of entries, and end in b's effect. No macro of a is composed.
 use mathlib.Core.Path.{_≡_}
 use mathlib.Core.Logic.{_↔_}
 use mathlib.Core.Bool.{Bool, true, false, _&&_}
@@ -13,7 +13,8 @@ use Rattle.model_spec.specs.States.{State}
 use Rattle.model_spec.specs.Rules.{runIn, sequenceCost, RedundantIn}
 use Rattle.model_spec.specs.Validity.{Valid}
 use Rattle.model_spec.specs.declared.RuleSet.{RuleSet}
-use Rattle.macros_spec.specs.Composition.{Lines, composed, asVectors}
+use Rattle.macros_spec.specs.Composition.{Lines}
+use Rattle.macros_spec.specs.VectorMeaning.{VectorsMean}
 use Rattle.macros_spec.specs.declared.Vectors.{Vectors}
 
 -- a run ended, and in this vector
@@ -34,8 +35,10 @@ lastNumber set = min (set .count) 31
 unfoldable pub redundantByLines : RuleSet → Option Lines → ℕ → Sequence → Bool
 redundantByLines set b cost a = every (within 1 (lastNumber set)) a && (leb (sequenceCost set a) cost && covers set a b)
 
--- what the test tells of the vectors and the cost of a sequence b of a valid set's rules: it passes exactly if b is redundant with a, over all states (source document 000, Definition 1)
+-- what the test tells of vectors that mean a sequence b of a valid set's rules, and of b's cost: it passes exactly if b
+-- is redundant with a, over all states (source document 000, Definition 1)
 abbrev pub TellsRedundancy : RuleSet → Vectors → ℕ → Sequence → Bool → Type 0
 TellsRedundancy set vectors cost a answer =
-    (b : Sequence) → Valid set → Numbered (set .count) b → Numbered (set .count) a → vectors ≡ asVectors (composed set b) → cost ≡ sequenceCost set b
+    (b : Sequence) → Valid set → Numbered (set .count) b → Numbered (set .count) a
+    → VectorsMean set b vectors → cost ≡ sequenceCost set b
     → (answer ≡ true) ↔ RedundantIn set b a

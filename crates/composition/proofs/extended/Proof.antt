@@ -1,12 +1,35 @@
--- `composition::extended` meets its contract: by cases on whether the sequence has vectors, and on whether its effect is unified with the rule's condition.
+-- `composition::extended` meets its contract: by cases on whether the sequence has vectors, and on whether its effect is
+-- unified with the rule's condition.
 -- Assumes nothing.
-use mathlib.Core.Path.{sym, ap, _∙_}
+use mathlib.Core.Path.{_≡_, refl, sym, ap, _∙_, subst}
+use mathlib.Core.Option.{Option, some}
 use borrow.Author.Needs.{needs}
 use borrow.Author.Tests.{not-true, not-false}
-use Rattle.macros_spec.specs.Composition.{asVectors}
+use Rattle.model_spec.specs.declared.Rule.{Rule}
+use Rattle.macros_spec.specs.Composition.{Lines, extended, asVectors, linesOf}
+use Rattle.macros_spec.specs.VectorMeaning.{ExtendedMeaning}
+use Rattle.macros_spec.specs.declared.Vectors.{Vectors}
 use Rattle.macros_spec.proofs.CompositionLoopLaws.{extend-denied, extend-clash, extend-met}
+use Rattle.macros_spec.proofs.VectorMeaningLaws.{extended-meaning}
 use Rattle.composition.proofs.extended.Statement.{statement}
 use Rattle.composition.proofs.extended.Tie as tie
+
+-- what equals the definition has its meaning
+found : (sequence : Vectors) (rule : Rule) (r : Vectors) (lines : Option Lines) → r ≡ asVectors lines
+    → extended rule (linesOf sequence) ≡ lines
+    → (r ≡ asVectors (extended rule (linesOf sequence))) × ExtendedMeaning sequence rule r
+found sequence rule r lines e own =
+    let same = e ∙ ap asVectors (sym own) in
+    (same, subst (ExtendedMeaning sequence rule) (sym same) (extended-meaning sequence rule))
+
+-- the sequence has vectors
+abbrev admittedAt : tie.After-unified → tie.Else1
+admittedAt c =
+    let copied = c .before .before .before in
+    copied .before .before
+
+abbrev startOf : tie.Else1 → tie.Start
+startOf c = c .before .before
 
 denied-requires : tie.Need-denied-requires
 denied-requires c κs = search needs
@@ -14,7 +37,8 @@ denied-requires c κs = search needs
 returns : tie.Need-returns
 returns c =
     let a = c .before .before .before .args in
-    c .denied .ensures ∙ ap asVectors (sym (extend-denied (a .rule) (a .sequence) (not-true _ (c .before .if1 .taken))))
+    found (a .sequence) (a .rule) _ _ (c .denied .ensures)
+    (extend-denied (a .rule) (a .sequence) (not-true _ (c .before .if1 .taken)))
 
 unified-requires : tie.Need-unified-requires
 unified-requires c κs = search needs
@@ -25,10 +49,11 @@ denied-requires-2 c κs = search needs
 returns-2 : tie.Need-returns-2
 returns-2 c =
     let u = c .before .before .before in
-    let e = u .before .before .before .before .before in
-    let a = e .before .before .args in
-    c .denied2 .ensures
-    ∙ ap asVectors (sym (extend-clash (a .rule) (a .sequence) (not-false _ (e .if1 .left)) (u .unified .result) (u .unified .ensures) (not-true _ (c .before .if2 .taken))))
+    let e = admittedAt u in
+    let a = startOf e .args in
+    found (a .sequence) (a .rule) _ _ (c .denied2 .ensures)
+    (extend-clash (a .rule) (a .sequence) (not-false _ (e .if1 .left)) (u .unified .result) (u .unified .ensures)
+    (not-true _ (c .before .if2 .taken)))
 
 followed-requires : tie.Need-followed-requires
 followed-requires c κs = search needs
@@ -37,10 +62,11 @@ returns-3 : tie.Need-returns-3
 returns-3 c =
     let f = c .before .before .before in
     let u = f .before .before in
-    let e = u .before .before .before .before .before in
-    let a = e .before .before .args in
-    ap asVectors
-    (sym (extend-met (a .rule) (a .sequence) (not-false _ (e .if1 .left)) (u .unified .result) (u .unified .ensures) _ (not-false _ (f .if2 .left)) (c .followed .ensures)))
+    let e = admittedAt u in
+    let a = startOf e .args in
+    found (a .sequence) (a .rule) _ (some (record { condition = _; effect = _ })) refl
+    (extend-met (a .rule) (a .sequence) (not-false _ (e .if1 .left)) (u .unified .result) (u .unified .ensures)
+    _ (not-false _ (f .if2 .left)) (c .followed .ensures))
 
 pub extended-spec : {M : Type 1} → statement M
 extended-spec =

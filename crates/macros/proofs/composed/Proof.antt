@@ -22,7 +22,7 @@ empty-requires c κs = search needs
 
 loop-holds : tie.Need-loop-holds Inv-loop μ-loop
 unfolding composed composedFrom emptyLines
-loop-holds c = (search needs, c .empty .ensures)
+loop-holds c = (search needs, c .empty .ensures .0)
 
 shared-slice-read-rule-at : tie.Need-shared-slice-read-rule-at Inv-loop μ-loop
 shared-slice-read-rule-at c = search needs
@@ -47,7 +47,7 @@ loop-again c =
     let number = numbered-at 31 (a .moves .now) (l .loop .i) (s .pre) (omega arith) in (
       search needs,
       compose-go (a .set) (a .moves .now) (l .loop .i) (l .loop .sequence) (l .loop .inv .1) _ _
-          (c .before .rule-at .ensures ∙ rule-among (a .set) _ (number .1)) (c .extended .ensures) (omega arith),
+          (c .before .rule-at .ensures ∙ rule-among (a .set) _ (number .1)) (c .extended .ensures .0) (omega arith),
     )
 
 returns : tie.Need-returns Inv-loop μ-loop

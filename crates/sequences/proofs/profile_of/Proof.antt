@@ -25,7 +25,7 @@ empty-requires c κs = search needs
 
 loop-holds : tie.Need-loop-holds Inv-loop μ-loop
 unfolding composed composedFrom emptyLines
-loop-holds c = (search needs, c .empty .ensures, search needs, search needs)
+loop-holds c = (search needs, c .empty .ensures .0, search needs, search needs)
 
 shared-slice-read-rule : tie.Need-shared-slice-read-rule Inv-loop μ-loop
 shared-slice-read-rule c = search needs
@@ -76,7 +76,7 @@ loop-again c =
     let a = l .before .before .before .args in
     let left = cost-go (a .t1) (a .moves .now) (l .loop .i) _ refl (omega arith) in (
       search needs,
-      compose-go (a .t1) (a .moves .now) (l .loop .i) (l .loop .vectors) (l .loop .inv .1) _ _ refl (c .before .extended .ensures) (omega arith),
+      compose-go (a .t1) (a .moves .now) (l .loop .i) (l .loop .vectors) (l .loop .inv .1) _ _ refl (c .before .extended .ensures .0) (omega arith),
       omega (arith, left),
       search needs,
     )
