@@ -13,7 +13,9 @@ ghost use Rattle.report_spec.specs.Listing.{listing};
 fn listed(text: &[u8], out: &mut [u8]) -> usize
     requires { ⌜ 20859 ≤ length (now out) ⌝ }
     ensures { λ r. ⌜ Counts r (now (out .exit)) ⌝ }
-    ensures { λ r. ⌜ ((input : List ℕ) (n : ℕ) → 4293 ≤ n → now (text .entry) ≡ take n input → take r (now (out .exit)) ≡ listing input) ⌝ }
+    ensures { λ r. ⌜
+        ((input : List ℕ) (n : ℕ) → 4293 ≤ n → now (text .entry) ≡ take n input
+        → take r (now (out .exit)) ≡ listing input) ⌝ }
 {
     report::report(text, out)
 }
@@ -38,8 +40,8 @@ fn main() {
     let mut text = io::large_buffer();
     let n = io::read_full(STDIN_FILENO, &mut text);
     let mut out = io::large_buffer();
-    let length = listed(&text[..n], &mut out);
-    io::write_all(STDOUT_FILENO, &out[..length]);
+    let size = listed(&text[..n], &mut out);
+    io::write_all(STDOUT_FILENO, &out[..size]);
     if n == 65536 {
         skip_rest();
     }

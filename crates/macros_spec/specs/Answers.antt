@@ -53,8 +53,8 @@ macroAnswer set moves = macroWith set moves (firstRefusal (macroCauses set moves
 
 -- ── What a macro means, over all states of the sizes ─────────────────────────────────────────────
 
--- the macro of a sequence: it has the form of a rule's lines, it runs from exactly the states where the sequence's rules
--- run in turn, to the same state, at their summed cost
+-- the macro of a sequence: it has the form of a rule's lines, it runs from exactly the states where the sequence's
+-- rules run in turn, to the same state, at their summed cost
 pub record Means (set : RuleSet) (q : Sequence) (m : Macro) : Type 0 where
   pub form : LinesValid (set .positions) (set .sizes) (m .condition) (m .effect)
   pub runsWhere : (s : State) → StateOf set s

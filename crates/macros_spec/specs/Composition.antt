@@ -47,8 +47,9 @@ unified [] i m = some m
 unified (e ∷ asked) i m =
     let have = getD (m .effect) i 0 in
     let want = valueOf e (m .effect) in
-    let next : Lines = record { condition = equated have want (m .condition); effect = equated have want (m .effect) } in
-    cond (clash have want) none (unified asked (suc i) next)
+    let condition = equated have want (m .condition) in
+    let effect = equated have want (m .effect) in
+    cond (clash have want) none (unified asked (suc i) (record { condition = condition; effect = effect }))
 
 -- the next rule's effect follows
 unfoldable pub followed : Rule → Option Lines → Option Lines

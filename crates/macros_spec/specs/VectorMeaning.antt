@@ -13,8 +13,9 @@ use Rattle.model_spec.specs.declared.RuleSet.{RuleSet}
 use Rattle.macros_spec.specs.Answers.{Means, Denied}
 use Rattle.macros_spec.specs.declared.Vectors.{Vectors}
 
--- vectors mean a sequence: they are marked as not admitted exactly if no state admits it; else, at the sequence's summed
--- cost, they are its macro: they run from exactly the states where its rules run in turn, and lead to the same state
+-- vectors mean a sequence: they are marked as not admitted exactly if no state admits it; else, at the sequence's
+-- summed cost, they are its macro: they run from exactly the states where its rules run in turn, and lead to the same
+-- state
 pub record VectorsMean (set : RuleSet) (q : Sequence) (vectors : Vectors) : Type 0 where
   pub denied : (vectors .admitted ≡ false) ↔ Denied set q
   pub means : vectors .admitted ≡ true

@@ -17,8 +17,8 @@ fn some_rules(count: u8) -> usize
     if count < 1 { 1 } else { count as usize }
 }
 
-// Lays the rule numbers of the sequence of an index, none, one or two. Of an index that no sequence of two rules has, the
-// first number is taken round.
+// Lays the rule numbers of the sequence of an index, none, one or two. Of an index that no sequence of two rules has,
+// the first number is taken round.
 fn put_sequence(text: &mut [u8], at: usize, count: u8, index: usize) -> usize
     ensures { λ r. ⌜ Laid at (sequenceText count index) (now (text .entry)) r (now (text .exit)) ⌝ }
 {

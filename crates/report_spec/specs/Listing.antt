@@ -17,7 +17,8 @@ listedReach = 2
 
 -- the indices of the marked sequences, in order
 unfoldable pub markedIndices : RuleSet → List ℕ
-markedIndices set = keep (λ i. not (eqb (builtEntry set listedReach i) kept)) (numbersFrom 0 (tableEntries set listedReach))
+markedIndices set =
+    keep (λ i. not (eqb (builtEntry set listedReach i) kept)) (numbersFrom 0 (tableEntries set listedReach))
 
 -- the rule numbers of a sequence, as the items of a line
 abbrev pub sequenceItems : Sequence → List (List ℕ)

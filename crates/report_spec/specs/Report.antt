@@ -1,4 +1,5 @@
--- What a report gives and leaves: the listing in the caller's buffer, or nothing where the buffer is shorter; and what that means, over all sequences and states.
+-- What a report gives and leaves: the listing in the caller's buffer, or nothing where the buffer is shorter; and what
+-- that means, over all sequences and states.
 use mathlib.Core.Path.{_≡_}
 use mathlib.Core.Logic.{_↔_, _≢_}
 use mathlib.Core.Bool.{cond}
@@ -26,15 +27,20 @@ reported text room = cond (leb (length (listing text)) room) (padded room 0 (lis
 abbrev pub Listed : RuleSet → Sequence → Type 0
 Listed set q = (i : ℕ) × (i ∈ markedIndices set) × (sequenceAt set listedReach i ≡ q)
 
--- what a report tells and leaves. A refused text is listed by its number alone. Of a text that is read, the sequences listed are exactly the prunable ones (document 01: needless), in order,
--- and each with the smallest index that will do as its witness. The buffer holds the whole listing, or nothing; the length is 0 exactly if the buffer is shorter than the listing
+-- what a report tells and leaves. A refused text is listed by its number alone. Of a text that is read, the sequences
+-- listed are exactly the prunable ones (document 01: needless), in order, and each with the smallest index that will do
+-- as its witness. The buffer holds the whole listing, or nothing; the length is 0 exactly if the buffer is shorter than
+-- the listing
 pub record ReportMeaning (text : List ℕ) (room r : ℕ) (out : List ℕ) : Type 0 where
   pub refused : reading text .outcome ≢ 0 → listing text ≡ line "refused=" (numeral (reading text .outcome) ∷ [])
   pub read : (set : RuleSet) → ReadAs text set → listing text ≡ listingOf set
-  pub marks : (set : RuleSet) → ReadAs text set → (i : ℕ) → (i ∈ markedIndices set) ↔ ((i < tableEntries set listedReach) × Prunable set listedReach (sequenceAt set listedReach i))
+  pub marks : (set : RuleSet) → ReadAs text set → (i : ℕ)
+      → (i ∈ markedIndices set)
+      ↔ ((i < tableEntries set listedReach) × Prunable set listedReach (sequenceAt set listedReach i))
   pub sequences : (set : RuleSet) → ReadAs text set → (q : Sequence) → Listed set q ↔ Prunable set listedReach q
   pub rising : (set : RuleSet) → ReadAs text set → Pairwise (λ i j. i < j) (markedIndices set)
-  pub least : (set : RuleSet) → ReadAs text set → (i : ℕ) → i ∈ markedIndices set → LeastWitness set listedReach i (builtEntry set listedReach i)
+  pub least : (set : RuleSet) → ReadAs text set → (i : ℕ) → i ∈ markedIndices set
+      → LeastWitness set listedReach i (builtEntry set listedReach i)
   pub short : (r ≡ 0) ↔ (room < length (listing text))
   pub shown : r ≢ 0 → (r ≡ length (listing text)) × (out ≡ listing text ++ replicate (room - r) 0)
   pub zeros : r ≡ 0 → out ≡ replicate room 0

@@ -1,4 +1,5 @@
--- What the builder and the check (document 01: the judge) answer, what the builder leaves in the table, and how long a table is.
+-- What the builder and the check (document 01: the judge) answer, what the builder leaves in the table, and how long a
+-- table is.
 use mathlib.Core.Path.{_≡_}
 use mathlib.Core.Logic.{_↔_, _≢_}
 use mathlib.Core.Bool.{not, cond}
@@ -12,7 +13,8 @@ use Rattle.model_spec.specs.Refusals.{Cause, firstRefusal}
 use Rattle.model_spec.specs.Validity.{valid, Valid}
 use Rattle.model_spec.specs.declared.RuleSet.{RuleSet}
 use Rattle.tables_spec.specs.declared.TableSize.{TableSize}
-use Rattle.tables_spec.specs.Table.{tableEntries, kept, entryAt, builtTable, accepted, Marked, Prunable, LeastWitness, Accepted}
+use Rattle.tables_spec.specs.Table.{tableEntries, kept, entryAt, builtTable, accepted}
+use Rattle.tables_spec.specs.Table.{Marked, Prunable, LeastWitness, Accepted}
 
 -- ── Once the set is judged ───────────────────────────────────────────────────────────────────────
 
@@ -20,7 +22,8 @@ use Rattle.tables_spec.specs.Table.{tableEntries, kept, entryAt, builtTa
 abbrev pub reachCauses : ℕ → List Cause
 reachCauses reach = (5, not (within 1 3 reach)) ∷ []
 
--- the causes that all calls on a table share, for a table of `size` bytes: this, and that the table's length is not 2 × S
+-- the causes that all calls on a table share, for a table of `size` bytes: this, and that the table's length is not
+-- 2 × S
 abbrev pub shapeCauses : RuleSet → ℕ → ℕ → List Cause
 shapeCauses set reach size = reachCauses reach ++ ((6, not (eqb size (2 * tableEntries set reach))) ∷ [])
 
@@ -73,7 +76,8 @@ ReachLimits reach = (1 ≤ reach) × (reach ≤ 3)
 abbrev pub Ready : RuleSet → ℕ → ℕ → Type 0
 Ready set reach size = Valid set × (ReachLimits reach × (size ≡ 2 * tableEntries set reach))
 
--- what is told of a table's length: each number exactly if its cause holds and none before it does, 0 exactly if none holds; and the length, which a refusal does not show
+-- what is told of a table's length: each number exactly if its cause holds and none before it does, 0 exactly if none
+-- holds; and the length, which a refusal does not show
 pub record SizeMeaning (set : RuleSet) (reach : ℕ) (answer : TableSize) : Type 0 where
   pub notValid : (answer .outcome ≡ 7) ↔ (Valid set → ⊥)
   pub badReach : (answer .outcome ≡ 5) ↔ (Valid set × (ReachLimits reach → ⊥))
@@ -82,15 +86,17 @@ pub record SizeMeaning (set : RuleSet) (reach : ℕ) (answer : TableSize) : Type
   pub bounded : answer .length ≤ 61568
   pub refused : answer .outcome ≢ 0 → answer .length ≡ 0
 
--- what a build tells and leaves: each number exactly if its cause holds and none before it does, 0 exactly if none holds; the marks are exactly those of prunable sequences, each names the
--- smallest index that will do; and a refusal leaves zeros
+-- what a build tells and leaves: each number exactly if its cause holds and none before it does, 0 exactly if none
+-- holds; the marks are exactly those of prunable sequences, each names the smallest index that will do; and a refusal
+-- leaves zeros
 pub record BuildMeaning (set : RuleSet) (reach size outcome : ℕ) (table : List ℕ) : Type 0 where
   pub notValid : (outcome ≡ 7) ↔ (Valid set → ⊥)
   pub badReach : (outcome ≡ 5) ↔ (Valid set × (ReachLimits reach → ⊥))
   pub badLength : (outcome ≡ 6) ↔ (Valid set × (ReachLimits reach × (size ≢ 2 * tableEntries set reach)))
   pub built : (outcome ≡ 0) ↔ Ready set reach size
   pub marks : outcome ≡ 0 → (q : Sequence) → Marked set reach table q ↔ Prunable set reach q
-  pub least : outcome ≡ 0 → (i : ℕ) → i < tableEntries set reach → entryAt table i ≢ kept → LeastWitness set reach i (entryAt table i)
+  pub least : outcome ≡ 0 → (i : ℕ) → i < tableEntries set reach → entryAt table i ≢ kept
+      → LeastWitness set reach i (entryAt table i)
   pub zeros : outcome ≢ 0 → table ≡ replicate size 0
 
 -- what a check tells: each number exactly if its cause holds and none before it does, 0 exactly if none holds

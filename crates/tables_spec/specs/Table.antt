@@ -1,5 +1,5 @@
--- The pruning table (document 01: the drop table): two bytes for each sequence of at most `reach` rules, by index, low byte first.
--- 65535 keeps the sequence; another value marks it and is the index of its witness.
+-- The pruning table (document 01: the drop table): two bytes for each sequence of at most `reach` rules, by index, low
+-- byte first. 65535 keeps the sequence; another value marks it and is the index of its witness.
 use mathlib.Core.Path.{_≡_}
 use mathlib.Core.Logic.{_≢_}
 use mathlib.Core.Bool.{Bool, not, cond, _&&_, _||_}
@@ -42,7 +42,9 @@ entryBytes e = (e % 256) ∷ (e / 256) ∷ []
 
 -- the sequence q is marked: it has an index whose entry is not 65535
 unfoldable pub marked : RuleSet → ℕ → List ℕ → Sequence → Bool
-marked set reach table q = any (λ i. same q (sequenceAt set reach i) && not (eqb (entryAt table i) kept)) (numbersFrom 0 (tableEntries set reach))
+marked set reach table q =
+    any (λ i. same q (sequenceAt set reach i) && not (eqb (entryAt table i) kept))
+    (numbersFrom 0 (tableEntries set reach))
 
 -- ── The built table ──────────────────────────────────────────────────────────────────────────────
 
@@ -69,15 +71,20 @@ entryJustified set reach table i =
 
 -- a table is accepted: entry 0 is 65535, and each mark is justified
 unfoldable pub accepted : RuleSet → ℕ → List ℕ → Bool
-accepted set reach table = eqb (entryAt table 0) kept && every (entryJustified set reach table) (numbersFrom 0 (tableEntries set reach))
+accepted set reach table =
+    eqb (entryAt table 0) kept
+    && every (entryJustified set reach table) (numbersFrom 0 (tableEntries set reach))
 
 -- ── The same as statements, over all states ──────────────────────────────────────────────────────
 
 -- the sequence b is marked: it has an index whose entry is not 65535
 abbrev pub Marked : RuleSet → ℕ → List ℕ → Sequence → Type 0
-Marked set reach table b = (i : ℕ) × (i < tableEntries set reach) × ((sequenceAt set reach i ≡ b) × (entryAt table i ≢ kept))
+Marked set reach table b =
+    (i : ℕ) × (i < tableEntries set reach)
+    × ((sequenceAt set reach i ≡ b) × (entryAt table i ≢ kept))
 
--- b is prunable for a reach (document 01: needless): a sequence of 1 to `reach` rules of the set that is redundant with some earlier one of at most `reach` rules
+-- b is prunable for a reach (document 01: needless): a sequence of 1 to `reach` rules of the set that is redundant with
+-- some earlier one of at most `reach` rules
 pub record Prunable (set : RuleSet) (reach : ℕ) (b : Sequence) : Type 0 where
   pub rules : Numbered (set .count) b
   pub notEmpty : 1 ≤ length b
@@ -90,13 +97,19 @@ pub record Prunable (set : RuleSet) (reach : ℕ) (b : Sequence) : Type 0 where
 
 -- the mark at index i is justified: it names a smaller index with whose sequence its own is redundant
 abbrev pub MarkJustified : RuleSet → ℕ → List ℕ → ℕ → Type 0
-MarkJustified set reach table i = (entryAt table i < i) × RedundantIn set (sequenceAt set reach i) (sequenceAt set reach (entryAt table i))
+MarkJustified set reach table i =
+    (entryAt table i < i)
+    × RedundantIn set (sequenceAt set reach i) (sequenceAt set reach (entryAt table i))
 
 -- a table of 2 × S bytes is accepted
 abbrev pub Accepted : RuleSet → ℕ → List ℕ → Type 0
-Accepted set reach table = (entryAt table 0 ≡ kept) × ((i : ℕ) → i < tableEntries set reach → entryAt table i ≢ kept → MarkJustified set reach table i)
+Accepted set reach table =
+    (entryAt table 0 ≡ kept)
+    × ((i : ℕ) → i < tableEntries set reach → entryAt table i ≢ kept → MarkJustified set reach table i)
 
 -- n is the smallest index with whose sequence sequence i is redundant, and smaller than i
 abbrev pub LeastWitness : RuleSet → ℕ → ℕ → ℕ → Type 0
 LeastWitness set reach i n =
-    (n < i) × (RedundantIn set (sequenceAt set reach i) (sequenceAt set reach n) × ((j : ℕ) → RedundantIn set (sequenceAt set reach i) (sequenceAt set reach j) → n ≤ j))
+    (n < i)
+    × (RedundantIn set (sequenceAt set reach i) (sequenceAt set reach n)
+    × ((j : ℕ) → RedundantIn set (sequenceAt set reach i) (sequenceAt set reach j) → n ≤ j))

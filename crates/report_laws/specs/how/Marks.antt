@@ -1,5 +1,5 @@
--- A listing by the bytes of a table and the number of rules, as the functions lay it, for any of both. No answer mentions
--- it: the law `table-listing` says that of the built table it is the listing.
+-- A listing by the bytes of a table and the number of rules, as the functions lay it, for any of both. No answer
+-- mentions it: the law `table-listing` says that of the built table it is the listing.
 use mathlib.Core.Bool.{Bool, not, cond}
 use mathlib.Core.List.{List, [], _∷_, _++_, map}
 use Prim.Native.Nat.{ℕ, _/_, max}

@@ -1,6 +1,6 @@
 -- The sequence of at most three rules that an index names, by arithmetic: for every number of rules and every index.
--- No promise of a call needs this file, only those of functions below the calls: the law `short-at` says that for a well-formed set and an
--- index of its tables it is `sequenceAt`.
+-- No promise of a call needs this file, only those of functions below the calls: the law `short-at` says that for a
+-- well-formed set and an index of its tables it is `sequenceAt`.
 use Prim.Native.Nat.{ℕ, min, max}
 use Rattle.theory_spec.specs.Sequences.{Sequence}
 use Rattle.theory_spec.specs.how.Indices.{sequenceOf}

@@ -13,12 +13,14 @@ use Rattle.macros_spec.specs.Composition.{Lines}
 use Rattle.macros_spec.specs.Redundancy.{covers}
 use Rattle.tables_spec.specs.Table.{kept}
 
--- the first sequence of a list that passes the test, by the index that it has, in a set of m rules, behind a sequence of index i; 65535 if none passes
+-- the first sequence of a list that passes the test, by the index that it has, in a set of m rules, behind a sequence
+-- of index i; 65535 if none passes
 abbrev pub firstBehind : ℕ → ℕ → (Sequence → Bool) → List Sequence → ℕ
 firstBehind m i test [] = kept
 firstBehind m i test (q ∷ later) = cond (test q) (indexFrom m i q) (firstBehind m i test later)
 
--- a is a witness of a sequence with these vectors and this cost: it costs no more, and there are no vectors, or its rules run in turn on the condition, as on a state of entries, and end in the effect
+-- a is a witness of a sequence with these vectors and this cost: it costs no more, and there are no vectors, or its
+-- rules run in turn on the condition, as on a state of entries, and end in the effect
 unfoldable pub serves : RuleSet → Option Lines → ℕ → Sequence → Bool
 serves set b cost a = leb (sequenceCost set a) cost && covers set a b
 
