@@ -67,8 +67,10 @@ returns c =
 
 returns-2 : tie.Need-returns-2
 returns-2 c =
-    let s = c .before .before .before .before .args in
-    not-smaller (s .set) (s .table .now) (s .i) _ (c .before .before .entry-at .ensures .0) (c .before .if1 .left) (c .if2 .taken)
+    let entry = c .before .before in
+    let s = entry .before .before .args in
+    not-smaller (s .set) (s .table .now) (s .i) _ (entry .entry-at .ensures .0) (c .before .if1 .left)
+    (omega (arith, c .if2 .taken))
 
 profile-at-requires : tie.Need-profile-at-requires
 profile-at-requires c κs = search needs
@@ -90,17 +92,21 @@ is-redundant-requires c κs = search needs
 
 returns-3 : tie.Need-returns-3
 returns-3 c =
-    let named = c .before .before .before .before in
+    let lending = c .before .before in
+    let named = lending .before .before in
     let own = named .before in
     let entry = own .before .before .before in
     let s = entry .before .before in
     let set = s .args .set in
     let at = named .sequence-at in
     let is = short-at set (s .pre .0) (s .args .i) (s .pre .1) in
-    let h : entry .entry-at .result < tableEntries set 3 = omega (arith, s .pre .1, own .before .if2 .left) in
+    let earlier : entry .entry-at .result < s .args .i = omega (arith, own .before .if2 .left) in
+    let h : entry .entry-at .result < tableEntries set 3 = omega (arith, s .pre .1, earlier) in
     let lent = part-three (at .result .start) (at .result .rules) (rules-3 (at .result) _ (at .ok)) ∙ at .ensures .1 in
-    compared set (s .args .table .now) (s .args .i) (entry .entry-at .result) (entry .entry-at .ensures .0) (own .before .before .if1 .left) (own .before .if2 .left)
-    (s .pre .0) (s .pre .1) _ (own .profile-at .ensures .0 ∙ ap (λ q. asVectors (composed set q)) is) _ (own .profile-at .ensures .1 ∙ ap (sequenceCost set) is)
+    compared set (s .args .table .now) (s .args .i) (entry .entry-at .result) (entry .entry-at .ensures .0)
+    (own .before .before .if1 .left) earlier (s .pre .0) (s .pre .1)
+    _ (own .profile-at .ensures .0 ∙ ap (λ q. asVectors (composed set q)) is)
+    _ (own .profile-at .ensures .1 ∙ ap (sequenceCost set) is)
     _ (lent ∙ short-at set (s .pre .0) (entry .entry-at .result) h)
     _ (c .is-redundant .ensures .0)
 

@@ -22,7 +22,8 @@ use Rattle.redundancy.proofs.is_redundant.Tie as tie
 
 -- ── Each way out: what was found of the witness and of the sequence tells the answer ─────────────
 
-module _ (set : RuleSet) (sequence : Vectors) (cost : ℕ) (witness : Sequence) (last : ℕ) (l : last ≡ lastNumber set) where
+module _ (set : RuleSet) (sequence : Vectors) (cost : ℕ) (witness : Sequence)
+    (last : ℕ) (l : last ≡ lastNumber set) where
   abbrev answer : Bool
   answer = redundantByLines set (linesOf sequence) cost witness
 
@@ -35,7 +36,8 @@ module _ (set : RuleSet) (sequence : Vectors) (cost : ℕ) (witness : Sequence) 
   test = rw (← l) (numbered-test last witness)
 
   -- one is not
-  unnumbered : any (λ r. not (within 1 last r)) witness ≡ true → (false ≡ answer) × TellsRedundancy set sequence cost witness false
+  unnumbered : any (λ r. not (within 1 last r)) witness ≡ true
+      → (false ≡ answer) × TellsRedundancy set sequence cost witness false
   unfolding redundantByLines
   unnumbered e = found false (rw (test, e))
 
@@ -44,12 +46,14 @@ module _ (set : RuleSet) (sequence : Vectors) (cost : ℕ) (witness : Sequence) 
     each-number = numbered-wider last 31 witness (omega arith) (no-unknown-iff last witness .0 numbered)
 
     -- the witness costs more
-    dearer : leb (sequenceCost set witness) cost ≡ false → (false ≡ answer) × TellsRedundancy set sequence cost witness false
+    dearer : leb (sequenceCost set witness) cost ≡ false
+        → (false ≡ answer) × TellsRedundancy set sequence cost witness false
     unfolding redundantByLines
     dearer d = found false (rw (test, numbered, d))
 
     -- no state admits the sequence
-    never-run : leb (sequenceCost set witness) cost ≡ true → sequence .admitted ≡ false → (true ≡ answer) × TellsRedundancy set sequence cost witness true
+    never-run : leb (sequenceCost set witness) cost ≡ true → sequence .admitted ≡ false
+        → (true ≡ answer) × TellsRedundancy set sequence cost witness true
     unfolding redundantByLines covers
     never-run d a = found true (rw (test, numbered, d, a))
 
@@ -68,43 +72,60 @@ last-number-requires c κs = search needs
 has-unknown-move-requires : tie.Need-has-unknown-move-requires
 has-unknown-move-requires c κs = search needs
 
+abbrev lastOf : tie.After-has-unknown-move → tie.After-last-number
+lastOf c = c .before
+
+abbrev startOf : tie.After-has-unknown-move → tie.Start
+startOf c = lastOf c .before .before
+
 returns : tie.Need-returns
 returns c =
-    let s = c .before .before .before .before .args in
-    unnumbered (s .set) (s .sequence) (s .cost) (s .witness .now) _ (c .before .before .last-number .ensures) (sym (c .before .has-unknown-move .ensures) ∙ c .if1 .taken)
+    let looked = c .before in
+    let s = startOf looked .args in
+    unnumbered (s .set) (s .sequence) (s .cost) (s .witness .now) _ (lastOf looked .last-number .ensures)
+    (sym (looked .has-unknown-move .ensures) ∙ c .if1 .taken)
+
+-- no move of the witness is unknown
+known : (c : tie.Else1)
+    → any (λ r. not (within 1 (lastOf (c .before) .last-number .result) r)) (startOf (c .before) .args .witness .now) ≡ false
+known c = sym (c .before .has-unknown-move .ensures) ∙ c .if1 .left
 
 costs-at-most-requires : tie.Need-costs-at-most-requires
 costs-at-most-requires c κs = search needs
 
 returns-2 : tie.Need-returns-2
 returns-2 c =
-    let other = c .before .before in
-    let s = other .before .before .before .before .args in
-    dearer (s .set) (s .sequence) (s .cost) (s .witness .now) _ (other .before .before .last-number .ensures) (sym (other .before .has-unknown-move .ensures) ∙ other .if1 .left)
-    (failed (c .before .costs-at-most .ensures) (c .if2 .taken))
+    let numbered = c .before .before in
+    let s = startOf (numbered .before) .args in
+    dearer (s .set) (s .sequence) (s .cost) (s .witness .now) _ (lastOf (numbered .before) .last-number .ensures)
+    (known numbered) (failed (c .before .costs-at-most .ensures) (c .if2 .taken))
 
 returns-3 : tie.Need-returns-3
 returns-3 c =
     let cost = c .before .before in
-    let other = cost .before .before in
-    let s = other .before .before .before .before .args in
-    never-run (s .set) (s .sequence) (s .cost) (s .witness .now) _ (other .before .before .last-number .ensures) (sym (other .before .has-unknown-move .ensures) ∙ other .if1 .left)
-    (passed (cost .before .costs-at-most .ensures) (cost .if2 .left)) (not-true _ (c .if3 .taken))
+    let numbered = cost .before .before in
+    let s = startOf (numbered .before) .args in
+    never-run (s .set) (s .sequence) (s .cost) (s .witness .now) _ (lastOf (numbered .before) .last-number .ensures)
+    (known numbered) (passed (cost .before .costs-at-most .ensures) (cost .if2 .left)) (not-true _ (c .if3 .taken))
 
 leads-requires : tie.Need-leads-requires
 leads-requires c κs =
-    let other = c .before .before .before .before .before .before in
-    let s = other .before .before .before .before .args in
-    each-number (s .set) (s .sequence) (s .cost) (s .witness .now) _ (other .before .before .last-number .ensures) (sym (other .before .has-unknown-move .ensures) ∙ other .if1 .left)
+    let admitted = c .before .before in
+    let cost = admitted .before .before in
+    let numbered = cost .before .before in
+    let s = startOf (numbered .before) .args in
+    each-number (s .set) (s .sequence) (s .cost) (s .witness .now) _ (lastOf (numbered .before) .last-number .ensures)
+    (known numbered)
 
 returns-4 : tie.Need-returns-4
 returns-4 c =
     let admitted = c .before .before .before in
     let cost = admitted .before .before in
-    let other = cost .before .before in
-    let s = other .before .before .before .before .args in
-    compared (s .set) (s .sequence) (s .cost) (s .witness .now) _ (other .before .before .last-number .ensures) (sym (other .before .has-unknown-move .ensures) ∙ other .if1 .left)
-    (passed (cost .before .costs-at-most .ensures) (cost .if2 .left)) (not-false _ (admitted .if3 .left)) _ (c .leads .ensures)
+    let numbered = cost .before .before in
+    let s = startOf (numbered .before) .args in
+    compared (s .set) (s .sequence) (s .cost) (s .witness .now) _ (lastOf (numbered .before) .last-number .ensures)
+    (known numbered) (passed (cost .before .costs-at-most .ensures) (cost .if2 .left))
+    (not-false _ (admitted .if3 .left)) _ (c .leads .ensures)
 
 pub is-redundant-spec : {M : Type 1} → statement M
 is-redundant-spec =

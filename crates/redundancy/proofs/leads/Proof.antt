@@ -1,11 +1,12 @@
--- `redundancy::leads` meets its contract. The invariant: whether the moves left lead from the entries to the effect decides the whole.
+-- `redundancy::leads` meets its contract. The invariant: whether the moves left lead from the entries to the effect
+-- decides the whole.
 -- Assumes nothing.
 use mathlib.Core.Path.{_≡_, refl, _∙_}
 use Prim.Native.Nat.{_≤_, _-_}
 use native.Mathlib.Omega.{arith}
-use lib.ListN.{length, drop}
+use lib.ListN.{length, getD, drop}
 use borrow.Author.Needs.{needs}
-use Rattle.model_spec.specs.Rules.{runIn}
+use Rattle.model_spec.specs.Rules.{ruleAt, runIn}
 use Rattle.model_spec.proofs.LoopLaws.{failed, passed}
 use Rattle.macros_spec.specs.Redundancy.{endsIn}
 use Rattle.macros_spec.proofs.MoveLaws.{numbered-at, rule-among}
@@ -14,7 +15,8 @@ use Rattle.redundancy.proofs.leads.Statement.{statement}
 use Rattle.redundancy.proofs.leads.Tie as tie
 
 abbrev Inv-loop : tie.InvT-loop
-Inv-loop set moves effect entries₀ i₀ entries i = (i ≤ length moves) × (endsIn (runIn set (drop i moves) entries) effect ≡ endsIn (runIn set moves entries₀) effect)
+Inv-loop set moves effect entries₀ i₀ entries i =
+    (i ≤ length moves) × (endsIn (runIn set (drop i moves) entries) effect ≡ endsIn (runIn set moves entries₀) effect)
 
 abbrev μ-loop : tie.MeasureT-loop
 μ-loop set moves effect entries₀ i₀ entries i = length moves - i
@@ -31,14 +33,33 @@ rule-at-requires c κs = search needs
 runs-requires : tie.Need-runs-requires Inv-loop μ-loop
 runs-requires c κs = search needs
 
+abbrev ruleOf : tie.After-runs Inv-loop μ-loop → tie.After-rule-at Inv-loop μ-loop
+ruleOf c =
+    let copied = c .before .before .before in
+    copied .before .before
+
+abbrev headOf : tie.After-rule-at Inv-loop μ-loop → tie.At-loop Inv-loop μ-loop
+headOf c = c .before .before .before
+
+abbrev startOf : tie.At-loop Inv-loop μ-loop → tie.Start Inv-loop μ-loop
+startOf c = c .before .before
+
+-- the rule is that of the next move
+rule-is : (c : tie.After-rule-at Inv-loop μ-loop)
+    → let s = startOf (headOf c) .args in c .rule-at .result ≡ ruleAt (s .set) (getD (s .moves .now) (headOf c .loop .i) 0)
+rule-is c =
+    let at = headOf c in
+    let s = startOf at in
+    let number = numbered-at 31 (s .args .moves .now) (at .loop .i) (s .pre) (omega arith) in
+    c .rule-at .ensures ∙ rule-among (s .args .set) _ (number .1)
+
 returns : tie.Need-returns Inv-loop μ-loop
 returns c =
-    let at = c .before .before .before .before .before .before .before .before .before in
-    let s = at .before .before .args in
-    let number = numbered-at 31 (s .moves .now) (at .loop .i) (at .before .before .pre) (omega arith) in
-    leads-stop (s .set) (s .moves .now) (at .loop .i) (at .loop .entries) (s .t4) _ (at .loop .inv .1) _
-    (c .before .before .before .before .before .before .rule-at .ensures ∙ rule-among (s .set) _ (number .1)) (omega arith)
-    (failed (c .before .runs .ensures) (c .if1 .taken))
+    let rule = ruleOf (c .before) in
+    let at = headOf rule in
+    let s = startOf at .args in
+    leads-stop (s .set) (s .moves .now) (at .loop .i) (at .loop .entries) (s .t4) _ (at .loop .inv .1)
+    _ (rule-is rule) (omega arith) (failed (c .before .runs .ensures) (c .if1 .taken))
 
 after-requires : tie.Need-after-requires Inv-loop μ-loop
 after-requires c κs = search needs
@@ -51,14 +72,13 @@ loop-less c = search needs
 
 loop-again : tie.Need-loop-again Inv-loop μ-loop
 loop-again c =
-    let ran = c .before .before .before .before in
-    let at = ran .before .before .before .before .before .before .before .before in
-    let s = at .before .before .args in
-    let number = numbered-at 31 (s .moves .now) (at .loop .i) (at .before .before .pre) (omega arith) in (
+    let ran = c .before .before .before in
+    let rule = ruleOf (ran .before) in
+    let at = headOf rule in
+    let s = startOf at .args in (
       search needs,
-      leads-go (s .set) (s .moves .now) (at .loop .i) (at .loop .entries) (s .t4) _ (at .loop .inv .1) _
-          (ran .before .before .before .before .before .rule-at .ensures ∙ rule-among (s .set) _ (number .1)) (omega arith)
-          (passed (ran .runs .ensures) (c .before .before .before .if1 .left)) _ (c .after .ensures),
+      leads-go (s .set) (s .moves .now) (at .loop .i) (at .loop .entries) (s .t4) _ (at .loop .inv .1)
+          _ (rule-is rule) (omega arith) (passed (ran .before .runs .ensures) (ran .if1 .left)) _ (c .after .ensures),
     )
 
 same-entries-requires : tie.Need-same-entries-requires Inv-loop μ-loop
@@ -66,9 +86,11 @@ same-entries-requires c κs = search needs
 
 returns-2 : tie.Need-returns-2 Inv-loop μ-loop
 returns-2 c =
-    let at = c .before .before .before .before in
-    let s = at .before .before .args in
-    c .same-entries .ensures ∙ leads-end (s .set) (s .moves .now) (at .loop .i) (at .loop .entries) (s .t4) _ (at .loop .inv .1) (omega arith)
+    let ended = c .before .before .before in
+    let at = ended .before in
+    let s = startOf at .args in
+    c .same-entries .ensures
+    ∙ leads-end (s .set) (s .moves .now) (at .loop .i) (at .loop .entries) (s .t4) _ (at .loop .inv .1) (omega arith)
 
 pub leads-spec : {M : Type 1} → statement M
 leads-spec =

@@ -12,10 +12,15 @@ use Rattle.witness_rules.proofs.finishes.Tie as tie
 leads-to-requires : tie.Need-leads-to-requires
 leads-to-requires c κs = search needs
 
+abbrev startOf : tie.After-leads-to → tie.Start
+startOf c = c .before .before .before
+
 returns : tie.Need-returns
 returns c =
-    let s = c .before .before .before .before .args in
-    sym (second-fails (leb (s .rule .cost) (s .left)) (second-fails (applicable (s .rule .condition) (s .entries .now)) (failed (c .before .leads-to .ensures) (c .if1 .taken))))
+    let s = startOf (c .before) .args in
+    sym (second-fails (leb (s .rule .cost) (s .left))
+    (second-fails (applicable (s .rule .condition) (s .entries .now))
+    (failed (c .before .leads-to .ensures) (c .if1 .taken))))
 
 goes-on-requires : tie.Need-goes-on-requires
 goes-on-requires c κs = search needs
@@ -23,8 +28,10 @@ goes-on-requires c κs = search needs
 returns-2 : tie.Need-returns-2
 returns-2 c =
     let led = c .before in
-    let s = led .before .before .before .before .args in
-    rw (passed (led .before .leads-to .ensures) (led .if1 .left), and-true (applicable (s .rule .condition) (s .entries .now))) (c .goes-on .ensures)
+    let s = startOf (led .before) .args in
+    rw
+    (passed (led .before .leads-to .ensures) (led .if1 .left), and-true (applicable (s .rule .condition) (s .entries .now)))
+    (c .goes-on .ensures)
 
 pub finishes-spec : {M : Type 1} → statement M
 finishes-spec = tie.close (tie.spec leads-to-requires returns goes-on-requires returns-2)

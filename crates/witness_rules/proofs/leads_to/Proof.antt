@@ -1,4 +1,5 @@
--- `witness_rules::leads_to` meets its contract. The invariant: what is left of the effect and the target from place i on decides the whole.
+-- `witness_rules::leads_to` meets its contract. The invariant: what is left of the effect and the target from place i on
+-- decides the whole.
 -- Assumes nothing.
 use mathlib.Core.Path.{_≡_, refl, sym, _∙_}
 use mathlib.Core.List.{map}
@@ -13,7 +14,9 @@ use Rattle.witness_rules.proofs.leads_to.Statement.{statement}
 use Rattle.witness_rules.proofs.leads_to.Tie as tie
 
 abbrev Inv-loop : tie.InvT-loop
-Inv-loop effect entries target each asked i₀ i = (i ≤ 16) × (same (map (λ e. valueOf e entries) (drop i effect)) (drop i target) ≡ same (successor effect entries) target)
+Inv-loop effect entries target each asked i₀ i =
+    (i ≤ 16)
+    × (same (map (λ e. valueOf e entries) (drop i effect)) (drop i target) ≡ same (successor effect entries) target)
 
 abbrev μ-loop : tie.MeasureT-loop
 μ-loop effect entries target each asked i₀ i = 16 - i
@@ -31,11 +34,19 @@ value-requires c κs = search needs
 shared-slice-read-if1 : tie.Need-shared-slice-read-if1 Inv-loop μ-loop
 shared-slice-read-if1 c = search needs
 
+abbrev headOf : tie.After-value Inv-loop μ-loop → tie.At-loop Inv-loop μ-loop
+headOf c = c .before .before .before
+
+abbrev startOf : tie.At-loop Inv-loop μ-loop → tie.Start Inv-loop μ-loop
+startOf c = c .before .before .before
+
 returns : tie.Need-returns Inv-loop μ-loop
 returns c =
-    let at = c .before .before .before .before .before in
-    let s = at .before .before .before .args in
-    same-stop (λ e. valueOf e (s .entries .now)) (s .effect .now) (s .target .now) (at .loop .i) _ (at .loop .inv .1) (omega arith) (omega arith) (λ e. c .if1 .taken (c .before .before .value .ensures ∙ e))
+    let at = headOf (c .before .before) in
+    let s = startOf at .args in
+    let is = c .before .before .value .ensures in
+    same-stop (λ e. valueOf e (s .entries .now)) (s .effect .now) (s .target .now) (at .loop .i) _ (at .loop .inv .1)
+    (omega arith) (omega arith) (λ e. c .if1 .taken cc)
 
 add-i : tie.Need-add-i Inv-loop μ-loop
 add-i c = search needs
@@ -45,16 +56,19 @@ loop-less c = search needs
 
 loop-again : tie.Need-loop-again Inv-loop μ-loop
 loop-again c =
-    let at = c .before .before .before .before .before in
-    let s = at .before .before .before .args in (
+    let at = headOf (c .before .before) in
+    let s = startOf at .args in (
       search needs,
-      same-go (λ e. valueOf e (s .entries .now)) (s .effect .now) (s .target .now) (at .loop .i) _ (at .loop .inv .1) (omega arith) (omega arith) (sym (c .before .before .value .ensures) ∙ c .if1 .left),
+      same-go (λ e. valueOf e (s .entries .now)) (s .effect .now) (s .target .now) (at .loop .i) _ (at .loop .inv .1)
+          (omega arith) (omega arith) (sym (c .before .before .value .ensures) ∙ c .if1 .left),
     )
 
 returns-2 : tie.Need-returns-2 Inv-loop μ-loop
 returns-2 c =
-    let s = c .before .before .before .before .args in
-    same-end (λ e. valueOf e (s .entries .now)) (s .effect .now) (s .target .now) (c .before .loop .i) _ (c .before .loop .inv .1) (omega arith) (omega arith)
+    let at = c .before in
+    let s = startOf at .args in
+    same-end (λ e. valueOf e (s .entries .now)) (s .effect .now) (s .target .now) (at .loop .i) _ (at .loop .inv .1)
+    (omega arith) (omega arith)
 
 pub leads-to-spec : {M : Type 1} → statement M
 leads-to-spec =
