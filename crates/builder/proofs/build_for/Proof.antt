@@ -23,13 +23,16 @@ returns c =
     let branch = zeroed .before .before in
     let s = branch .before .before .before .args in
     let e = branch .before .shape-refusal .ensures in
-    (e, zeroed .fill-from .ensures ∙ filled-whole 0 (s .entries .now) ∙ sym (with-refused (s .set) (s .reach) (length (s .entries .now)) (λ z. branch .if1 .taken (e ∙ z))))
+    let refused = with-refused (s .set) (s .reach) (length (s .entries .now)) (λ z. branch .if1 .taken (e ∙ z)) in
+    (e, zeroed .fill-from .ensures ∙ filled-whole 0 (s .entries .now) ∙ sym refused)
 
 write-entries-requires : tie.Need-write-entries-requires
 write-entries-requires c κs =
-    let start = c .before .before .before .before in
+    let judged = c .before .before in
+    let start = judged .before .before in
     let s = start .args in
-    let w = shape-ready-iff (s .set) (s .reach) (length (s .entries .now)) .0 (sym (c .before .before .shape-refusal .ensures) ∙ c .before .if1 .left) in
+    let w = shape-ready-iff (s .set) (s .reach) (length (s .entries .now)) .0
+    (sym (judged .shape-refusal .ensures) ∙ c .before .if1 .left) in
     (start .pre, w .0 .1, w .1)
 
 same-length-2 : tie.Need-same-length-2

@@ -36,12 +36,17 @@ returns c =
     let branch = zeroed .before .before in
     let s = branch .before .before .before .args in
     let invalid = failed (branch .before .is-valid .ensures .0) (branch .if1 .taken) in
-    let e = build-meaning (s .set) (s .reach) (length (s .table .now)) .notValid .1 (λ v. not-both (valid-iff (s .set) .1 v) invalid) in
-    let refused = built-refused (s .set) (s .reach) (length (s .table .now)) (λ z. omega (arith, e, z)) in
-    answers (s .set) (s .reach) (length (s .table .now)) _ _ (sym e) (zeroed .fill-from .ensures ∙ filled-whole 0 (s .table .now) ∙ sym refused)
+    let size = length (s .table .now) in
+    let e = build-meaning (s .set) (s .reach) size .notValid .1 (λ v. not-both (valid-iff (s .set) .1 v) invalid) in
+    let refused = built-refused (s .set) (s .reach) size (λ z. omega (arith, e, z)) in
+    answers (s .set) (s .reach) size _ _ (sym e)
+    (zeroed .fill-from .ensures ∙ filled-whole 0 (s .table .now) ∙ sym refused)
 
 build-for-requires : tie.Need-build-for-requires
-build-for-requires c κs = let s = c .before .before .before .before .args in valid-iff (s .set) .0 (passed (c .before .before .is-valid .ensures .0) (c .before .if1 .left)) .formed
+build-for-requires c κs =
+    let judged = c .before .before in
+    let s = judged .before .before .args in
+    valid-iff (s .set) .0 (passed (judged .is-valid .ensures .0) (c .before .if1 .left)) .formed
 
 same-length-2 : tie.Need-same-length-2
 same-length-2 c = search needs
@@ -51,8 +56,10 @@ returns-2 c =
     let built = c .before .before in
     let branch = built .before .before in
     let s = branch .before .before .before .args in
-    let w = build-judged (s .set) (s .reach) (length (s .table .now)) (passed (branch .before .is-valid .ensures .0) (branch .if1 .left)) in
-    answers (s .set) (s .reach) (length (s .table .now)) _ _ (built .build-for .ensures .0 ∙ sym (w .0)) (built .build-for .ensures .1 ∙ sym (w .1))
+    let size = length (s .table .now) in
+    let w = build-judged (s .set) (s .reach) size (passed (branch .before .is-valid .ensures .0) (branch .if1 .left)) in
+    answers (s .set) (s .reach) size _ _ (built .build-for .ensures .0 ∙ sym (w .0))
+    (built .build-for .ensures .1 ∙ sym (w .1))
 
 pub build-table-spec : {M : Type 1} → statement M
 build-table-spec =

@@ -1,4 +1,5 @@
--- `builder::write_entries` meets its contract. The invariant: the entries so far, with those still to come, are the built table.
+-- `builder::write_entries` meets its contract. The invariant: the entries so far, with those still to come, are the built
+-- table.
 -- Assumes nothing.
 use mathlib.Core.Path.{_≡_, refl, sym, _∙_}
 use Prim.Native.Nat.{_-_, _<_}
@@ -12,14 +13,18 @@ use Rattle.builder.proofs.write_entries.Statement.{statement}
 use Rattle.builder.proofs.write_entries.Tie as tie
 
 abbrev Inv-loop : tie.InvT-loop
-Inv-loop set reach table₀ count i₀ table i = (length table ≡ length table₀) × (entered (builtEntry set reach) (tableEntries set reach) i table ≡ builtTable set reach)
+Inv-loop set reach table₀ count i₀ table i =
+    (length table ≡ length table₀)
+    × (entered (builtEntry set reach) (tableEntries set reach) i table ≡ builtTable set reach)
 
 abbrev μ-loop : tie.MeasureT-loop
 μ-loop set reach table₀ count i₀ table i = count - i
 
 loop-holds : tie.Need-loop-holds Inv-loop μ-loop
 unfolding builtTable
-loop-holds c = let s = c .before .args in (refl, entered-start (builtEntry (s .set) (s .reach)) (tableEntries (s .set) (s .reach)) (s .table .now))
+loop-holds c =
+    let s = c .before .args in
+    (refl, entered-start (builtEntry (s .set) (s .reach)) (tableEntries (s .set) (s .reach)) (s .table .now))
 
 entry-for-requires : tie.Need-entry-for-requires Inv-loop μ-loop
 entry-for-requires c κs =
@@ -55,12 +60,14 @@ loop-less c = omega arith
 
 loop-again : tie.Need-loop-again Inv-loop μ-loop
 loop-again c =
-    let l = c .before .before .loop in
-    let start = c .before .before .before .before in
+    let head = c .before .before in
+    let l = head .loop in
+    let start = head .before .before in
     let s = start .args in
     let h : l .i < tableEntries (s .set) (s .reach) = omega arith in (
       simp length-set (l .inv .0),
-      entered-more (builtEntry (s .set) (s .reach)) (tableEntries (s .set) (s .reach)) (l .i) (c .entry-for .result) (l .table) h (omega arith)
+      entered-more (builtEntry (s .set) (s .reach)) (tableEntries (s .set) (s .reach)) (l .i) (c .entry-for .result)
+          (l .table) h (omega arith)
           (c .entry-for .ensures .0 ∙ near-built (s .set) (s .reach) (start .pre .1) (l .i) h)
           ∙ l .inv .1,
     )
@@ -72,7 +79,9 @@ returns : tie.Need-returns Inv-loop μ-loop
 returns c =
     let l = c .before .loop in
     let s = c .before .before .before .args in
-    sym (entered-all (builtEntry (s .set) (s .reach)) (tableEntries (s .set) (s .reach)) (l .i) (l .table) (omega arith) (omega arith)) ∙ l .inv .1
+    sym (entered-all (builtEntry (s .set) (s .reach)) (tableEntries (s .set) (s .reach)) (l .i) (l .table)
+    (omega arith) (omega arith))
+    ∙ l .inv .1
 
 pub write-entries-spec : {M : Type 1} → statement M
 write-entries-spec =

@@ -1,4 +1,5 @@
--- `composition::unified` meets its contract. The invariant: what is left to unify from place i on, in the vectors as they stand, decides the whole.
+-- `composition::unified` meets its contract. The invariant: what is left to unify from place i on, in the vectors as they
+-- stand, decides the whole.
 -- Assumes nothing.
 use mathlib.Core.Path.{_≡_, refl, ap, _∙_}
 use mathlib.Core.Logic.{⊎-elim}
@@ -13,7 +14,9 @@ use Rattle.composition.proofs.unified.Tie as tie
 
 abbrev Inv-loop : tie.InvT-loop
 Inv-loop asked needed₀ held₀ i₀ needed held i =
-    (i ≤ 16) × (unified (drop i asked) i (record { condition = needed; effect = held }) ≡ unified asked 0 (record { condition = needed₀; effect = held₀ }))
+    (i ≤ 16)
+    × (unified (drop i asked) i (record { condition = needed; effect = held })
+    ≡ unified asked 0 (record { condition = needed₀; effect = held₀ }))
 
 abbrev μ-loop : tie.MeasureT-loop
 μ-loop asked needed₀ held₀ i₀ needed held i = 16 - i
@@ -41,13 +44,15 @@ denied-requires c κs = search needs
 
 returns : tie.Need-returns Inv-loop μ-loop
 returns c =
-    let v = c .before .before .before .before .before in
+    let compared = c .before .before .before in
+    let differ = compared .before in
+    let v = differ .before in
     let l = v .before .before .loop in
     let a = v .before .before .before .args in
     let m : Lines = record { condition = l .needed; effect = l .held } in
     c .denied .ensures
-    ∙ ap asVectors (unify-clash (a .t3) (l .i) m _ (l .inv .1) (omega arith) _ _ refl (v .value-in .ensures) _ (c .before .before .before .larger .ensures)
-    (c .before .if2 .taken) (c .before .before .before .before .if1 .taken))
+    ∙ ap asVectors (unify-clash (a .t3) (l .i) m _ (l .inv .1) (omega arith) _ _ refl (v .value-in .ensures)
+    _ (compared .larger .ensures) (c .before .if2 .taken) (differ .if1 .taken))
 
 replaced-requires : tie.Need-replaced-requires Inv-loop μ-loop
 replaced-requires c κs = search needs
@@ -70,15 +75,20 @@ loop-again c =
     ⊎-elim
     (λ w. rw (w .6, w .7) (
       search needs,
-      unify-go (a .t3) (l .i) m _ (l .inv .1) (omega arith) _ _ refl (v .value-in .ensures) _ _ _ _ (w .1 .ensures) (w .2 .ensures) (w .3 .left) (w .4 .ensures) (w .5 .ensures),
+      unify-go (a .t3) (l .i) m _ (l .inv .1) (omega arith) _ _ refl (v .value-in .ensures)
+          _ _ _ _ (w .1 .ensures) (w .2 .ensures) (w .3 .left) (w .4 .ensures) (w .5 .ensures),
     ))
-    (λ w. rw (w .1, w .2) (search needs, unify-same (a .t3) (l .i) m _ (l .inv .1) (omega arith) _ _ refl (v .value-in .ensures) (w .0 .left)))
+    (λ w. rw (w .1, w .2) (
+      search needs,
+      unify-same (a .t3) (l .i) m _ (l .inv .1) (omega arith) _ _ refl (v .value-in .ensures) (w .0 .left),
+    ))
     (c .if1 .came)
 
 returns-2 : tie.Need-returns-2 Inv-loop μ-loop
 returns-2 c =
     let l = c .before .loop in
-    ap asVectors (unify-end (c .before .before .args .t3) (l .i) (record { condition = l .needed; effect = l .held }) _ (l .inv .1) (omega arith))
+    let m : Lines = record { condition = l .needed; effect = l .held } in
+    ap asVectors (unify-end (c .before .before .args .t3) (l .i) m _ (l .inv .1) (omega arith))
 
 pub unified-spec : {M : Type 1} → statement M
 unified-spec =

@@ -41,13 +41,14 @@ loop-less c = search needs
 
 loop-again : tie.Need-loop-again Inv-loop μ-loop
 loop-again c =
-    let l = c .before .before .before .before in
+    let rule = c .before in
+    let l = rule .before .before .before in
     let s = l .before .before .before in
     let a = s .args in
     let number = numbered-at 31 (a .moves .now) (l .loop .i) (s .pre) (omega arith) in (
       search needs,
       compose-go (a .set) (a .moves .now) (l .loop .i) (l .loop .sequence) (l .loop .inv .1) _ _
-          (c .before .rule-at .ensures ∙ rule-among (a .set) _ (number .1)) (c .extended .ensures .0) (omega arith),
+          (rule .rule-at .ensures ∙ rule-among (a .set) _ (number .1)) (c .extended .ensures .0) (omega arith),
     )
 
 returns : tie.Need-returns Inv-loop μ-loop

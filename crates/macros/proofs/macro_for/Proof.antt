@@ -62,8 +62,10 @@ returns-2 c =
 
 composed-requires : tie.Need-composed-requires
 composed-requires c κs =
-    let start = c .before .before .before .before in
-    numbered-31 (start .args .set) (start .args .moves .now) (start .pre) (sym (c .before .has-unknown-move .ensures) ∙ c .if2 .left)
+    let looked = c .before in
+    let start = looked .before .before .before in
+    numbered-31 (start .args .set) (start .args .moves .now) (start .pre)
+    (sym (looked .has-unknown-move .ensures) ∙ c .if2 .left)
 
 refused-requires-3 : tie.Need-refused-requires-3
 refused-requires-3 c κs = search needs

@@ -29,7 +29,8 @@ same-length c = search needs
 returns-2 : tie.Need-returns-2
 returns-2 c =
     let witness = c .before .before in
-    let own = witness .before .before .before .before .before in
+    let between = witness .before .before .before in
+    let own = between .before .before in
     let branch = own .before .before .before in
     let s = branch .before .before .args in
     rw (entry-marked (s .count) (s .index) (s .entry) (branch .if1 .left))

@@ -61,10 +61,19 @@ put-requires c κs = search needs
 rem-put-number-2 : tie.Need-rem-put-number-2
 rem-put-number-2 c = search needs
 
+-- the first number is laid, of a sequence of two rules
+abbrev firstOf : tie.After-put → tie.After-put-number2
+firstOf c =
+    let called = c .before .before in
+    called .before .before
+
+abbrev branchOf : tie.After-put-number2 → tie.Else2
+branchOf c = c .before .before
+
 add-put-number-2 : tie.Need-add-put-number-2
 add-put-number-2 c =
-    let first = c .before .before .before .before .before .before .before in
-    let rules = first .before .before .before .before in
+    let comma = c .before .before .before in
+    let rules = branchOf (firstOf comma) .before .before in
     let start = rules .before .before .args in
     omega (arith, rule-number (start .count) (rules .some-rules .result) (rules .some-rules .ensures) (start .index - 1))
 
@@ -77,9 +86,10 @@ same-length-2 c = search needs
 returns-3 : tie.Need-returns-3
 returns-3 c =
     let second = c .before .before in
-    let comma = second .before .before .before .before in
-    let first = comma .before .before .before .before in
-    let branch = first .before .before in
+    let called = second .before in
+    let comma = called .before .before .before in
+    let first = firstOf comma in
+    let branch = branchOf first in
     let rules = branch .before .before in
     let start = rules .before .before .args in
     let many = rules .some-rules .result in

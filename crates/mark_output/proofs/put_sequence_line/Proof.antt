@@ -20,8 +20,10 @@ same-length c = search needs
 returns : tie.Need-returns
 returns c =
     let end = c .before .before in
-    let sequence = end .before .before .before .before in
-    let key = sequence .before .before .before .before in
+    let numbered = end .before .before in
+    let sequence = numbered .before .before in
+    let worded = sequence .before .before in
+    let key = worded .before .before in
     laid-append (laid-append (key .put-word .ensures) (sequence .put-sequence .ensures)) (end .put .ensures)
 
 pub put-sequence-line-spec : {M : Type 1} → statement M

@@ -42,10 +42,13 @@ same-length-2 c = search needs
 
 returns : tie.Need-returns
 returns c =
-    let build = c .before .before .before .before .before .before .before in
-    let s = build .before .before .before .before in
+    let laid = c .before .before in
+    let lent = laid .before .before in
+    let build = lent .before .before .before in
+    let known = build .before .before in
+    let s = known .before .before in
     let whole = build .build-table .ensures .1 ∙ built (s .args .set) (s .pre .0) _ (s .pre .1) in
-    rw (lists (s .args .set) (s .pre .0) _ whole) (c .before .before .put-table .ensures)
+    rw (lists (s .args .set) (s .pre .0) _ whole) (laid .put-table .ensures)
 
 pub put-built-spec : {M : Type 1} → statement M
 put-built-spec =

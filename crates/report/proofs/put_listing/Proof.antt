@@ -20,10 +20,11 @@ same-length c = search needs
 returns : tie.Need-returns
 unfolding line
 returns c =
-    let branch = c .before .before .before .before .before in
+    let laid = c .before .before in
+    let branch = laid .before .before .before in
     let outcome = branch .before .before .args .outcome in
     rw (ne-eqb outcome 0 (branch .if1 .taken))
-    (rw (shown-number outcome (omega arith)) at (c .before .before .put-number-line .ensures))
+    (rw (shown-number outcome (omega arith)) at (laid .put-number-line .ensures))
 
 put-set-requires : tie.Need-put-set-requires
 put-set-requires c κs = c .before .before .before .pre (c .before .if1 .left)
@@ -33,8 +34,9 @@ same-length-2 c = search needs
 
 returns-2 : tie.Need-returns-2
 returns-2 c =
-    let branch = c .before .before .before .before in
-    rw (eq-eqb (branch .before .before .args .outcome) 0 (branch .if1 .left)) (c .before .before .put-set .ensures)
+    let laid = c .before .before in
+    let branch = laid .before .before in
+    rw (eq-eqb (branch .before .before .args .outcome) 0 (branch .if1 .left)) (laid .put-set .ensures)
 
 pub put-listing-spec : {M : Type 1} → statement M
 put-listing-spec =

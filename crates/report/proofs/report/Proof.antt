@@ -24,7 +24,8 @@ use Rattle.report.proofs.report.Statement.{statement}
 use Rattle.report.proofs.report.Tie as tie
 
 -- the listing, by what reading the text gave
-listed : (text : List ℕ) (r : Reading) → r ≡ reading text → cond (eqb (r .outcome) 0) (listingOf (r .set)) (line "refused=" (numeral (r .outcome) ∷ [])) ≡ listing text
+listed : (text : List ℕ) (r : Reading) → r ≡ reading text
+    → cond (eqb (r .outcome) 0) (listingOf (r .set)) (line "refused=" (numeral (r .outcome) ∷ [])) ≡ listing text
 unfolding listing
 listed text r e = rw e
 
@@ -41,7 +42,9 @@ read-requires : tie.Need-read-requires
 read-requires c κs = search needs
 
 put-listing-requires : tie.Need-put-listing-requires
-put-listing-requires c κs = given-valid (c .before .before .before .before .args .text .now) (c .before .read .result) (c .before .read .ensures .0)
+put-listing-requires c κs =
+    let read = c .before in
+    given-valid (read .before .before .before .args .text .now) (read .read .result) (read .read .ensures .0)
 
 fill-from-requires : tie.Need-fill-from-requires
 fill-from-requires c κs = search needs
@@ -51,7 +54,9 @@ same-length c = search needs
 
 returns : tie.Need-returns
 returns c =
-    let file = c .before .before .before .before .before .before .before in
+    let filled = c .before .before in
+    let ended = filled .before .before in
+    let file = ended .before .before .before in
     let read = file .before .before in
     let s = read .before .before .before .args in
     let text = s .text .now in
@@ -60,7 +65,7 @@ returns c =
     let end = laid-end laid (omega (arith, listing-bound text)) in
     let w = report-short text (length (s .out .now)) (omega arith) in
     answers text (length (s .out .now)) _ _ (sym (w .0))
-    (c .before .before .fill-from .ensures ∙ filled-whole 0 _ ∙ ap (λ n. replicate n 0) same ∙ sym (w .1))
+    (filled .fill-from .ensures ∙ filled-whole 0 _ ∙ ap (λ n. replicate n 0) same ∙ sym (w .1))
 
 fill-from-requires-2 : tie.Need-fill-from-requires-2
 fill-from-requires-2 c κs = search needs
@@ -70,7 +75,9 @@ same-length-2 c = search needs
 
 returns-2 : tie.Need-returns-2
 returns-2 c =
-    let file = c .before .before .before .before .before .before .before in
+    let filled = c .before .before in
+    let ended = filled .before .before in
+    let file = ended .before .before .before in
     let read = file .before .before in
     let s = read .before .before .before .args in
     let text = s .text .now in
@@ -80,7 +87,7 @@ returns-2 c =
     let end = laid-end laid low in
     let w = report-fits text (length (s .out .now)) (omega arith) in
     answers text (length (s .out .now)) _ _ (end ∙ sym (w .0))
-    (c .before .before .fill-from2 .ensures ∙ zeros-laid laid low (omega arith) ∙ sym (w .1))
+    (filled .fill-from2 .ensures ∙ zeros-laid laid low (omega arith) ∙ sym (w .1))
 
 pub report-spec : {M : Type 1} → statement M
 report-spec =

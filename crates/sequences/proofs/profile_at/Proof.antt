@@ -27,17 +27,21 @@ part-profile-of-end c = let at = c .before .before .sequence-at in omega (arith,
 
 profile-of-requires : tie.Need-profile-of-requires
 profile-of-requires c κs =
-    let at = c .before .before .before .sequence-at in
-    let s = c .before .before .before .before .args in
+    let named = c .before .before .before in
+    let at = named .sequence-at in
+    let s = named .before .args in
     let lent = part-three (at .result .start) (at .result .rules) (rules-3 (at .result) _ (at .ok)) ∙ at .ensures .1 in
     subst (λ (q : Sequence). Numbered 31 q × (length q ≤ 3)) (sym lent) (short-numbered (s .set .count) (s .index))
 
 returns : tie.Need-returns
 returns c =
-    let at = c .before .before .before .before .sequence-at in
-    let set = c .before .before .before .before .before .args .set in
-    let lent = part-three (at .result .start) (at .result .rules) (rules-3 (at .result) _ (at .ok)) ∙ at .ensures .1 in
-    (c .profile-of .ensures .0 ∙ ap (λ q. asVectors (composed set q)) lent, c .profile-of .ensures .1 ∙ ap (sequenceCost set) lent)
+    let named = c .before .before .before in
+    let at = named .before .sequence-at in
+    let set = named .before .before .args .set in
+    let lent = part-three (at .result .start) (at .result .rules) (rules-3 (at .result) _ (at .ok)) ∙ at .ensures .1 in (
+      c .profile-of .ensures .0 ∙ ap (λ q. asVectors (composed set q)) lent,
+      c .profile-of .ensures .1 ∙ ap (sequenceCost set) lent,
+    )
 
 pub profile-at-spec : {M : Type 1} → statement M
 profile-at-spec =

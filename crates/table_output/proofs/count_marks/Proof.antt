@@ -35,8 +35,9 @@ loop-less c = omega arith
 
 loop-again : tie.Need-loop-again Inv-loop μ-loop
 loop-again c =
-    let l = c .before .before .before .loop in
-    let table = c .before .before .before .before .before .args .table .now in
+    let head = c .before .before .before in
+    let l = head .loop in
+    let table = head .before .before .args .table .now in
     let h = c .before .before .loop-test .taken in
     let entry = c .before .entry-at .ensures .0 in
     ⊎-elim (λ w.

@@ -34,13 +34,16 @@ add-i c = omega arith
 loop-less : tie.Need-loop-less Inv-loop μ-loop
 loop-less c = omega arith
 
+abbrev startOf : tie.At-loop Inv-loop μ-loop → tie.Start Inv-loop μ-loop
+startOf c = c .before .before .before
+
 loop-again : tie.Need-loop-again Inv-loop μ-loop
 loop-again c =
     let laid = c .before .before in
     let read = laid .before .before in
     let turn = read .before in
     let l = turn .before .loop in
-    let s = turn .before .before .before .before .args in
+    let s = startOf (turn .before) .args in
     let more = lines-more (s .table .now) (s .count) (l .i) _ (turn .loop-test .taken) (read .entry-at .ensures .0) in
     (omega arith, remains-rest (l .inv .1) _ _ more (laid .put-mark .ensures))
 
@@ -49,7 +52,7 @@ same-length c = remains-length (c .before .loop .inv .1)
 
 returns : tie.Need-returns Inv-loop μ-loop
 returns c =
-    let s = c .before .before .before .before .args in
+    let s = startOf (c .before) .args in
     remains-none (c .before .loop .inv .1) (lines-end (s .table .now) (s .count) (c .before .loop .i) (c .loop-test .left))
 
 pub put-marks-spec : {M : Type 1} → statement M

@@ -52,9 +52,12 @@ same-length c = search needs
 returns : tie.Need-returns
 returns c =
     let marks = c .before .before in
-    let number = marks .before .before .before .before in
-    let rules = number .before .before .before .before .before in
-    let reach = rules .before .before .before .before .before in
+    let toMarks = marks .before .before in
+    let number = toMarks .before .before in
+    let toNumber = number .before .before .before in
+    let rules = toNumber .before .before in
+    let toRules = rules .before .before .before in
+    let reach = toRules .before .before in
     let counted = reach .before .before .before in
     let s = counted .before .before .before in
     let byte : s .args .count ≤ 255 = omega (arith, s .fits .count) in

@@ -1,4 +1,5 @@
--- `table_sizes::shape_refusal` meets its contract: a length that is refused is refused for the same cause, and a length that is told decides the rest.
+-- `table_sizes::shape_refusal` meets its contract: a length that is refused is refused for the same cause, and a length
+-- that is told decides the rest.
 -- Assumes nothing.
 use mathlib.Core.Path.{sym, ap, _∙_}
 use borrow.Author.Needs.{needs}
@@ -19,15 +20,19 @@ returns c =
 
 returns-2 : tie.Need-returns-2
 returns-2 c =
-    let told = c .before .before .before .before in
+    let sized = c .before .before in
+    let told = sized .before .before in
     let s = told .before .args in
-    sym (shape-misfit (s .set) (s .reach) (s .size) (told .size-for .result) (told .size-for .ensures) (c .before .before .if1 .left) (c .if2 .taken))
+    sym (shape-misfit (s .set) (s .reach) (s .size) (told .size-for .result) (told .size-for .ensures) (sized .if1 .left)
+    (c .if2 .taken))
 
 returns-3 : tie.Need-returns-3
 returns-3 c =
-    let told = c .before .before .before .before in
+    let sized = c .before .before in
+    let told = sized .before .before in
     let s = told .before .args in
-    sym (shape-fits (s .set) (s .reach) (s .size) (told .size-for .result) (told .size-for .ensures) (c .before .before .if1 .left) (c .if2 .left))
+    sym (shape-fits (s .set) (s .reach) (s .size) (told .size-for .result) (told .size-for .ensures) (sized .if1 .left)
+    (c .if2 .left))
 
 pub shape-refusal-spec : {M : Type 1} → statement M
 shape-refusal-spec = tie.close (tie.spec size-for-requires returns returns-2 returns-3)

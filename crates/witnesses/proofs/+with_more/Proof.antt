@@ -19,7 +19,8 @@ use Rattle.macros_spec.specs.Composition.{Lines}
 use Rattle.tables_spec.specs.Table.{sequenceCount, kept}
 use Rattle.tables_laws.specs.how.Witnesses.{firstBehind, serves, firstWitness}
 use Rattle.tables_spec.proofs.CountLaws.{count-bound, behind-bound}
-use Rattle.tables_laws.proofs.WitnessLaws.{witness-searched, fromRule, runsHere, throughRule, from-first, from-end, from-next, from-through, from-found}
+use Rattle.tables_laws.proofs.WitnessLaws.{witness-searched, fromRule, runsHere, throughRule}
+use Rattle.tables_laws.proofs.WitnessLaws.{from-first, from-end, from-next, from-through, from-found}
 use Rattle.states.proofs.after.Reads as after-reads
 use Rattle.witness_rules.proofs.index_behind.Reads as index-behind-reads
 use Rattle.witness_rules.proofs.goes_on.Reads as goes-on-reads
@@ -31,8 +32,11 @@ use Rattle.witnesses.proofs.+with_more.{statement}
 use Rattle.witnesses.proofs.+with_more.Tie.{close}
 
 -- with one more rule, one less is to come
-room : (m more index k : ℕ) → 1 ≤ more → more ≤ 3 → index < sequenceCount m (3 - more) → k < m → index * m + (k + 1) < sequenceCount m (3 - (more - 1))
-room m more index k low high h l = let e : suc (3 - more) ≡ 3 - (more - 1) = omega arith in rw (← e) (behind-bound m (3 - more) index k h l)
+room : (m more index k : ℕ) → 1 ≤ more → more ≤ 3 → index < sequenceCount m (3 - more) → k < m
+    → index * m + (k + 1) < sequenceCount m (3 - (more - 1))
+room m more index k low high h l =
+    let e : suc (3 - more) ≡ 3 - (more - 1) = omega arith in
+    rw (← e) (behind-bound m (3 - more) index k h l)
 
 -- and the index is small
 room-bound : (m more index k : ℕ) → m ≤ 31 → 1 ≤ more → more ≤ 3 → index < sequenceCount m (3 - more) → k < m
@@ -47,12 +51,15 @@ last-one : (set : RuleSet) (index : ℕ) (b : Option Lines) (left more found : �
 last-one set index b left more found few one e = e ∙ witness-searched set index b left (level (set .count) 1) few ∙ rw one
 
 -- what the search behind the rule at place k finds: the first of all, or, where that is 65535, nothing
-module _ (set : RuleSet) (entries target : List ℕ) (left index n k X found : ℕ) (inv : fromRule set entries target left index n k ≡ X) (h : k < set .count)
-    (runs : runsHere set entries target left index n k ≡ true) (is : found ≡ throughRule set entries target left index n k) where
+module _ (set : RuleSet) (entries target : List ℕ) (left index n k X found : ℕ)
+    (inv : fromRule set entries target left index n k ≡ X) (h : k < set .count)
+    (runs : runsHere set entries target left index n k ≡ true)
+    (is : found ≡ throughRule set entries target left index n k) where
   found-first : found ≢ kept → found ≡ X
   found-first f = is ∙ from-found set entries target left index n k h runs (λ e. f (is ∙ e)) ∙ inv
 
-  found-none : set .count ≤ 31 → (before : ℕ) → index < sequenceCount (set .count) before → before + suc n ≤ 3 → found ≡ kept → fromRule set entries target left index n (k + 1) ≡ X
+  found-none : set .count ≤ 31 → (before : ℕ) → index < sequenceCount (set .count) before → before + suc n ≤ 3
+      → found ≡ kept → fromRule set entries target left index n (k + 1) ≡ X
   found-none few before room near e = from-through set entries target left index n k h few before room near runs (sym is ∙ e) ∙ inv
 
 -- the measure: how many rules are to come
@@ -82,13 +89,29 @@ calls t = (
 
 abbrev Inv : lts.InvT-loop
 Inv more index entries left target set k₀ k =
+    let lines : Option Lines = some (record { condition = entries; effect = target }) in
     (k ≤ set .count)
-    × (fromRule set entries target left index (more - 1) k ≡ firstBehind (set .count) index (serves set (some (record { condition = entries; effect = target })) left) (level (set .count) more))
+    × (fromRule set entries target left index (more - 1) k
+    ≡ firstBehind (set .count) index (serves set lines left) (level (set .count) more))
 
 abbrev μ : lts.MeasureT-loop
 μ more index entries left target set k₀ k = set .count - k
 
 module _ (t : ℕ) where
+  -- a turn of the loop, its head, and the start
+  abbrev turnOf : lts.After-goes-on (calls t) (at t) with-more.Post Inv μ → lts.In-loop (calls t) (at t) with-more.Post Inv μ
+  turnOf c = c .before .before
+
+  abbrev headOf : lts.After-goes-on (calls t) (at t) with-more.Post Inv μ → lts.At-loop (calls t) (at t) with-more.Post Inv μ
+  headOf c = turnOf c .before
+
+  abbrev startOf : lts.After-goes-on (calls t) (at t) with-more.Post Inv μ → lts.Start (calls t) (at t) with-more.Post Inv μ
+  startOf c = headOf c .before .before
+
+  -- where the rule goes on
+  abbrev onAt : lts.After-effect2 (calls t) (at t) with-more.Post Inv μ → lts.Then2 (calls t) (at t) with-more.Post Inv μ
+  onAt c = c .before .before
+
   with-one-more-requires : lts.Need-with-one-more-requires (calls t) (at t) with-more.Post Inv μ
   with-one-more-requires c κs = search needs
 
@@ -124,28 +147,39 @@ module _ (t : ℕ) where
 
   cast-behind : lts.Need-cast-behind (calls t) (at t) with-more.Post Inv μ
   cast-behind c =
-      let asked = c .before .before .before .before .before .before .before .before .before .before .pre .1 in
-      let more = c .before .before .before .before .before .before .before .loop-test .taken in
+      let rule = onAt (c .before .before) .before in
+      let asked = startOf rule .pre .1 in
+      let more = turnOf rule .loop-test .taken in
       omega (arith, c .index-behind .ensures, room-bound _ _ _ _ (asked .2) (asked .0) (asked .1) (asked .3) more)
 
   cast-rest : lts.Need-cast-rest (calls t) (at t) with-more.Post Inv μ
   cast-rest c = omega arith
 
   sub-rest : lts.Need-sub-rest (calls t) (at t) with-more.Post Inv μ
-  sub-rest c = leb-true _ _ (and-split _ _ (sym (c .before .before .before .before .before .before .goes-on .ensures) ∙ c .before .before .before .before .before .if2 .taken) .0)
+  sub-rest c =
+      let on = onAt (c .before .before .before) in
+      leb-true _ _ (and-split _ _ (sym (on .before .goes-on .ensures) ∙ on .if2 .taken) .0)
 
   sub-with-more : lts.Need-sub-with-more (calls t) (at t) with-more.Post Inv μ
   sub-with-more c = omega arith
 
   with-more-requires : lts.Need-with-more-requires (calls t) (at t) with-more.Post Inv μ
   with-more-requires c κs =
-      let asked = c .before .before .before .before .before .before .before .before .before .before .before .before .pre .1 in
-      (omega arith, (omega arith, omega arith, asked .2, rw (c .before .before .index-behind .ensures) (room _ _ _ _ (asked .0) (asked .1) (asked .3) (c .before .before .before .before .before .before .before .before .before .loop-test .taken))))
+      let behind = c .before .before in
+      let rule = onAt (behind .before .before) .before in
+      let asked = startOf rule .pre .1 in
+      let next = room _ _ _ _ (asked .0) (asked .1) (asked .3) (turnOf rule .loop-test .taken) in
+      (omega arith, (omega arith, omega arith, asked .2, rw (behind .index-behind .ensures) next))
 
   returns-2 : lts.Need-returns-2 (calls t) (at t) with-more.Post Inv μ
   returns-2 c =
-      found-first _ _ _ _ _ _ _ _ _ (c .before .before .before .before .before .before .before .before .before .before .before .before .loop .inv .1) (c .before .before .before .before .before .before .before .before .before .before .before .loop-test .taken) (sym (c .before .before .before .before .before .before .before .before .before .goes-on .ensures) ∙ c .before .before .before .before .before .before .before .before .if2 .taken)
-      (c .before .with-more .ensures ∙ rw (c .before .before .before .before .index-behind .ensures, c .before .before .before .before .before .after .ensures)) (c .if3 .taken)
+      let called = c .before in
+      let behind = called .before .before .before in
+      let on = onAt (behind .before .before) in
+      let rule = on .before in
+      found-first _ _ _ _ _ _ _ _ _ (headOf rule .loop .inv .1) (turnOf rule .loop-test .taken)
+      (sym (rule .goes-on .ensures) ∙ on .if2 .taken)
+      (called .with-more .ensures ∙ rw (behind .index-behind .ensures, behind .before .after .ensures)) (c .if3 .taken)
 
   add-k : lts.Need-add-k (calls t) (at t) with-more.Post Inv μ
   add-k c = omega arith
@@ -154,14 +188,20 @@ module _ (t : ℕ) where
   loop-less c = omega arith
 
   loop-again : lts.Need-loop-again (calls t) (at t) with-more.Post Inv μ
-  loop-again c = (
-    omega arith,
-    ⊎-elim
-        (λ w. found-none _ _ _ _ _ _ _ _ _ (c .before .before .before .before .loop .inv .1) (c .before .before .before .loop-test .taken) (sym (c .before .goes-on .ensures) ∙ w .0 .taken)
-        (w .7 .ensures ∙ rw (w .4 .ensures, w .3 .ensures)) (c .before .before .before .before .before .before .pre .1 .2) (3 - c .before .before .before .before .before .before .args .more) (c .before .before .before .before .before .before .pre .1 .3) (omega (arith, c .before .before .before .before .before .before .pre .1)) (w .8 .left))
-        (λ w. from-next _ _ _ _ _ _ _ (c .before .before .before .loop-test .taken) (sym (c .before .goes-on .ensures) ∙ w .left) ∙ c .before .before .before .before .loop .inv .1)
-        (c .if2 .came),
-  )
+  loop-again c =
+      let rule = c .before in
+      let more = turnOf rule .loop-test .taken in
+      let inv = headOf rule .loop .inv .1 in
+      let start = startOf rule in
+      let asked = start .pre .1 in (
+        omega arith,
+        ⊎-elim
+            (λ w. found-none _ _ _ _ _ _ _ _ _ inv more (sym (rule .goes-on .ensures) ∙ w .0 .taken)
+            (w .7 .ensures ∙ rw (w .4 .ensures, w .3 .ensures))
+            (asked .2) (3 - start .args .more) (asked .3) (omega (arith, asked)) (w .8 .left))
+            (λ w. from-next _ _ _ _ _ _ _ more (sym (rule .goes-on .ensures) ∙ w .left) ∙ inv)
+            (c .if2 .came),
+      )
 
   returns-3 : lts.Need-returns-3 (calls t) (at t) with-more.Post Inv μ
   returns-3 c = sym (from-end _ _ _ _ _ _ _ (c .loop-test .left)) ∙ c .before .loop .inv .1

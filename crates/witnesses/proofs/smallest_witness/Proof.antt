@@ -16,7 +16,8 @@ use Rattle.macros_spec.specs.declared.Vectors.{Vectors}
 use Rattle.tables_spec.specs.Table.{kept}
 use Rattle.tables_laws.specs.how.Witnesses.{firstBehind, serves, firstWitness}
 use Rattle.tables_spec.proofs.CountLaws.{count-levels}
-use Rattle.tables_laws.proofs.WitnessLaws.{witness-searched, witness-unsearched, serves-last, upTo, empty-found, empty-next, lengths-next, lengths-found, lengths-end}
+use Rattle.tables_laws.proofs.WitnessLaws.{witness-searched, witness-unsearched, serves-last}
+use Rattle.tables_laws.proofs.WitnessLaws.{upTo, empty-found, empty-next, lengths-next, lengths-found, lengths-end}
 use Rattle.witnesses.proofs.smallest_witness.Statement.{statement}
 use Rattle.witnesses.proofs.smallest_witness.Tie as tie
 
@@ -33,7 +34,9 @@ module _ (set : RuleSet) (v : Vectors) (cost : ℕ) (few : set .count ≤ 31) wh
   -- no state admits the sequence: the empty one is a witness
   denied : v .admitted ≡ false → 0 ≡ firstWitness set 0 (linesOf v) cost (sequences (set .count) 3)
   unfolding serves covers sequenceCost
-  denied h = searched {b = none} (rw h) 0 (empty-found (set .count) (serves set none cost) (rw (le-leb 0 cost (omega arith))))
+  denied h =
+      searched {b = none} (rw h) 0
+      (empty-found (set .count) (serves set none cost) (rw (le-leb 0 cost (omega arith))))
 
   -- else the search is from the condition to the effect
   abbrev aim : Sequence → Bool
@@ -45,10 +48,25 @@ module _ (set : RuleSet) (v : Vectors) (cost : ℕ) (few : set .count ≤ 31) wh
 
 abbrev Inv-loop : tie.InvT-loop
 Inv-loop set cost condition effect more₀ more =
-    (1 ≤ more) × (more ≤ 4) × (upTo (set .count) (serves set (some (record { condition = condition; effect = effect })) cost) (more - 1) ≡ kept)
+    let lines : Option Lines = some (record { condition = condition; effect = effect }) in
+    (1 ≤ more) × (more ≤ 4) × (upTo (set .count) (serves set lines cost) (more - 1) ≡ kept)
 
 abbrev μ-loop : tie.MeasureT-loop
 μ-loop set cost condition effect more₀ more = 4 - more
+
+-- where the sequence is one that some state admits, and the set has at most 31 rules
+abbrev admittedAt : tie.After-same-entries Inv-loop μ-loop → tie.Else2 Inv-loop μ-loop
+admittedAt c =
+    let copied = c .before .before .before in
+    copied .before .before
+
+abbrev fewAt : tie.Else2 Inv-loop μ-loop → tie.Else1 Inv-loop μ-loop
+fewAt c = c .before .before
+
+abbrev headOf : tie.After-with-more Inv-loop μ-loop → tie.At-loop Inv-loop μ-loop
+headOf c =
+    let lent = c .before .before in
+    lent .before .before
 
 returns : tie.Need-returns Inv-loop μ-loop
 returns c =
@@ -66,37 +84,44 @@ same-entries-requires c κs = search needs
 
 returns-3 : tie.Need-returns-3 Inv-loop μ-loop
 returns-3 c =
-    let test = c .before .before .before .before .before .before in
-    let limit = test .before .before in
+    let test = admittedAt (c .before) in
+    let limit = fewAt test in
     let s = limit .before .before .args in
     admitted (s .set) (s .sequence) (s .cost) (limit .if1 .left) (not-false _ (test .if2 .left)) 0
     (empty-found (s .set .count) (aim (s .set) (s .sequence) (s .cost) (limit .if1 .left))
-    (serves-last (s .set) (s .sequence .condition) (s .cost) (s .sequence .effect) ∙ sym (c .before .same-entries .ensures) ∙ c .if3 .taken))
+    (serves-last (s .set) (s .sequence .condition) (s .cost) (s .sequence .effect)
+    ∙ sym (c .before .same-entries .ensures)
+    ∙ c .if3 .taken))
 
 loop-holds : tie.Need-loop-holds Inv-loop μ-loop
 loop-holds c =
-    let limit = c .before .before .before .before .before .before .before .before in
+    let limit = fewAt (admittedAt (c .before)) in
     let s = limit .before .before .args in (
       omega arith,
       omega arith,
       empty-next (s .set .count) (aim (s .set) (s .sequence) (s .cost) (limit .if1 .left))
-          (serves-last (s .set) (s .sequence .condition) (s .cost) (s .sequence .effect) ∙ sym (c .before .same-entries .ensures) ∙ c .if3 .left),
+          (serves-last (s .set) (s .sequence .condition) (s .cost) (s .sequence .effect)
+          ∙ sym (c .before .same-entries .ensures)
+          ∙ c .if3 .left),
     )
 
 with-more-requires : tie.Need-with-more-requires Inv-loop μ-loop
 with-more-requires c κs =
     let at = c .before .before .before in
-    let limit = at .before .before .before .before .before .before .before .before .before in
-    (at .loop .inv .0, omega arith, limit .if1 .left, omega (arith, count-levels (limit .before .before .args .set .count) (3 - at .loop .more)))
+    let limit = fewAt (admittedAt (at .before .before)) in
+    let count = limit .before .before .args .set .count in
+    (at .loop .inv .0, omega arith, limit .if1 .left, omega (arith, count-levels count (3 - at .loop .more)))
 
 returns-4 : tie.Need-returns-4 Inv-loop μ-loop
 returns-4 c =
-    let at = c .before .before .before .before .before in
-    let test = at .before .before .before .before .before .before .before in
-    let few = test .before .before .if1 .left in
-    let s = test .before .before .before .before .args in
+    let at = headOf (c .before) in
+    let test = admittedAt (at .before .before) in
+    let limit = fewAt test in
+    let few = limit .if1 .left in
+    let s = limit .before .before .args in
     admitted (s .set) (s .sequence) (s .cost) few (not-false _ (test .if2 .left)) _
-    (lengths-found (s .set .count) (aim (s .set) (s .sequence) (s .cost) few) few (at .loop .more) (at .loop .inv .0) (omega arith) (at .loop .inv .2) _ (c .before .with-more .ensures) (c .if4 .taken))
+    (lengths-found (s .set .count) (aim (s .set) (s .sequence) (s .cost) few) few (at .loop .more) (at .loop .inv .0)
+    (omega arith) (at .loop .inv .2) _ (c .before .with-more .ensures) (c .if4 .taken))
 
 add-more : tie.Need-add-more Inv-loop μ-loop
 add-more c = search needs
@@ -106,22 +131,26 @@ loop-less c = search needs
 
 loop-again : tie.Need-loop-again Inv-loop μ-loop
 loop-again c =
-    let at = c .before .before .before .before .before in
-    let limit = at .before .before .before .before .before .before .before .before .before in
+    let at = headOf (c .before) in
+    let limit = fewAt (admittedAt (at .before .before)) in
+    let few = limit .if1 .left in
     let s = limit .before .before .args in (
       omega arith,
       omega arith,
-      lengths-next (s .set .count) (aim (s .set) (s .sequence) (s .cost) (limit .if1 .left)) (limit .if1 .left) (at .loop .more) (at .loop .inv .0) (omega arith) (at .loop .inv .2) _ (c .before .with-more .ensures) (c .if4 .left),
+      lengths-next (s .set .count) (aim (s .set) (s .sequence) (s .cost) few) few (at .loop .more) (at .loop .inv .0)
+          (omega arith) (at .loop .inv .2) _ (c .before .with-more .ensures) (c .if4 .left),
     )
 
 returns-5 : tie.Need-returns-5 Inv-loop μ-loop
 returns-5 c =
     let at = c .before in
-    let test = at .before .before .before .before .before .before .before in
-    let few = test .before .before .if1 .left in
-    let s = test .before .before .before .before .args in
+    let test = admittedAt (at .before .before) in
+    let limit = fewAt test in
+    let few = limit .if1 .left in
+    let s = limit .before .before .args in
     admitted (s .set) (s .sequence) (s .cost) few (not-false _ (test .if2 .left)) 65535
-    (lengths-end (s .set .count) (aim (s .set) (s .sequence) (s .cost) few) (at .loop .more) (omega arith) (omega arith) (at .loop .inv .2))
+    (lengths-end (s .set .count) (aim (s .set) (s .sequence) (s .cost) few) (at .loop .more) (omega arith) (omega arith)
+    (at .loop .inv .2))
 
 pub smallest-witness-spec : {M : Type 1} → statement M
 smallest-witness-spec =
