@@ -2,6 +2,7 @@
 -- And the listing of E, the packed answer of P1, the plan part and the tally.
 use Prim.Native.Nat.{ℕ}
 use mathlib.Core.Path.{_≡_, refl}
+use mathlib.Core.Bool.{true, false}
 use mathlib.Core.Option.{some, none}
 use mathlib.Core.List.{List, [], _∷_, _++_, map}
 use lib.ListN.{replicate}
@@ -13,6 +14,7 @@ use Rattle.files_spec.specs.Text.{bytes, numeral, line}
 use Rattle.files_spec.specs.Reading.{literal, digits, isNumber, decimal, number, numberWithin, variable, constant, entry, sizeItem, conditionItem, effectItem, itemsAfter, numberLine, listLine, ruleLines, rulesAfter, ruleList, fileLines, finished, reading}
 use Rattle.macros_spec.specs.Composition.{ownVariables, emptyLines, replaced, clash, equated, unified, followed, extended, composedFrom, composed}
 use Rattle.macros_spec.specs.Answers.{macroCauses, macroAnswer}
+use Rattle.macros_spec.specs.Redundancy.{covers, redundantByLines}
 use Rattle.tables_spec.specs.Table.{tableEntries, sequenceAt, entryAt, marked, builtEntry, builtTable, entryJustified, accepted}
 use Rattle.tables_spec.specs.Answers.{tableCauses, buildOutcome, builtBuffer, checkCauses, checkOutcome}
 use Rattle.search_spec.specs.Query.{Query, startFits, goalFits, meetsGoal, visitedBy, plansFor}
@@ -93,6 +95,10 @@ tables =
     ∷ record { asked = check flip 2 (markBytes 0 ++ replicate 12 255); expected = checks 14 }
     ∷ record { asked = check flip 2 (replicate 12 255 ++ (254 ∷ 255 ∷ [])); expected = checks 14 }
     ∷ record { asked = check flip 2 (replicate 13 255); expected = checks 6 }
+    -- a swap, which leaves states of equal values as they are, is not idle; nor is rule 2, on the state 0,0 alone
+    ∷ record { asked = build swapped 1 6; expected = builds 0 (keptBytes ++ keptBytes ++ keptBytes) }
+    ∷ record { asked = check swapped 1 (keptBytes ++ markBytes 0 ++ keptBytes); expected = checks 14 }
+    ∷ record { asked = check swapped 1 (keptBytes ++ keptBytes ++ markBytes 0); expected = checks 14 }
     ∷ []
 
 -- ── Searches ─────────────────────────────────────────────────────────────────────────────────────
@@ -162,6 +168,22 @@ rows = macros ++ tables ++ searches ++ texts
 pub further-cases : map (λ (row : Row). reply (row .asked)) rows ≡ map (λ (row : Row). row .expected) rows
 unfolding valueOf valuesOf applicable successor width states ruleAt stepOf ruleCost statesOf runIn sequenceCost admitted redundant entryLimited conditionPlaced effectPlaced conditionValid effectValid sizeValid sizesValid ruleValid ruleBlank ruleValidAt rulesValid duplicate repeated hasDuplicates wellFormed valid literal digits isNumber decimal number numberWithin variable constant entry sizeItem conditionItem effectItem itemsAfter numberLine listLine ruleLines rulesAfter ruleList fileLines finished reading ownVariables emptyLines replaced clash equated unified followed extended composedFrom composed macroCauses macroAnswer tableEntries sequenceAt entryAt marked builtEntry builtTable entryJustified accepted tableCauses buildOutcome builtBuffer checkCauses checkOutcome startFits goalFits meetsGoal visitedBy plansFor queryCauses cheapestPlan searchCauses shownPlan searchedWith searched numeral line markedIndices markLines listingOf listing packed textRefused ofText searchedText packedSearch
 further-cases = refl
+
+-- ── Redundancy ───────────────────────────────────────────────────────────────────────────────────
+
+-- with the empty sequence, by vectors: a swap is not, nor is rule 2, which does nothing in the state 0,0; a swap twice is
+pub redundancies : map
+    (λ (q : List ℕ). redundantByLines swapped (composed swapped q) (sequenceCost swapped q) [])
+    ((1 ∷ []) ∷ (2 ∷ []) ∷ (1 ∷ 1 ∷ []) ∷ [])
+    ≡ false ∷ false ∷ true ∷ []
+unfolding valueOf valuesOf applicable successor width ruleAt stepOf ruleCost runIn sequenceCost
+    literal digits isNumber decimal number numberWithin variable constant entry sizeItem conditionItem effectItem
+    itemsAfter numberLine listLine ruleLines rulesAfter ruleList fileLines finished reading
+    entryLimited conditionPlaced effectPlaced conditionValid effectValid sizeValid sizesValid ruleValid ruleBlank
+    ruleValidAt rulesValid duplicate repeated hasDuplicates wellFormed valid
+    ownVariables emptyLines replaced clash equated unified followed extended composedFrom composed
+    covers redundantByLines
+redundancies = refl
 
 -- ── Plan part and tally ──────────────────────────────────────────────────────────────────────────
 
