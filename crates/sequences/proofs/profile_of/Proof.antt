@@ -1,10 +1,11 @@
--- `sequences::profile_of` meets its contract. The invariant: the vectors so far are those of the first i moves, the cost so far plus the cost of the moves left is the whole cost,
--- and the cost so far is at most 255 for each of the first i moves.
+-- `sequences::profile_of` meets its contract. The invariant: the vectors so far are those of the first i moves, the cost
+-- so far plus the cost of the moves left is the whole cost, and the cost so far is at most 255 for each of the first i
+-- moves.
 -- Assumes nothing.
 use mathlib.Core.Path.{_≡_, refl}
 use Prim.Native.Nat.{_+_, _*_, _≤_, _-_}
 use native.Mathlib.Omega.{arith}
-use lib.ListN.{length, take, drop}
+use lib.ListN.{length, getD, take, drop}
 use borrow.Author.Needs.{needs}
 use Rattle.model_spec.specs.Rules.{ruleAt, sequenceCost}
 use Rattle.macros_spec.specs.Composition.{emptyLines, composedFrom, composed, asVectors}
@@ -15,7 +16,11 @@ use Rattle.sequences.proofs.profile_of.Statement.{statement}
 use Rattle.sequences.proofs.profile_of.Tie as tie
 
 abbrev Inv-loop : tie.InvT-loop
-Inv-loop moves set vectors₀ cost₀ i₀ vectors cost i = (i ≤ length moves) × (vectors ≡ asVectors (composed set (take i moves))) × (cost + sequenceCost set (drop i moves) ≡ sequenceCost set moves) × (cost ≤ 255 * i)
+Inv-loop moves set vectors₀ cost₀ i₀ vectors cost i =
+    (i ≤ length moves)
+    × (vectors ≡ asVectors (composed set (take i moves)))
+    × (cost + sequenceCost set (drop i moves) ≡ sequenceCost set moves)
+    × (cost ≤ 255 * i)
 
 abbrev μ-loop : tie.MeasureT-loop
 μ-loop moves set vectors₀ cost₀ i₀ vectors cost i = length moves - i
@@ -30,29 +35,31 @@ loop-holds c = (search needs, c .empty .ensures .0, search needs, search needs)
 shared-slice-read-rule : tie.Need-shared-slice-read-rule Inv-loop μ-loop
 shared-slice-read-rule c = search needs
 
+abbrev headOf : tie.After-shared-slice-known2 Inv-loop μ-loop → tie.At-loop Inv-loop μ-loop
+headOf c = c .before .before
+
+abbrev startOf : tie.At-loop Inv-loop μ-loop → tie.Start Inv-loop μ-loop
+startOf c = c .before .before .before
+
+-- the next move is the number of one of 31 rules
+number : (c : tie.After-shared-slice-known2 Inv-loop μ-loop)
+    → let next = getD (startOf (headOf c) .args .moves .now) (headOf c .loop .i) 0 in (1 ≤ next) × (next ≤ 31)
+number c =
+    let l = headOf c in
+    let s = startOf l in
+    numbered-at 31 (s .args .moves .now) (l .loop .i) (s .pre .0) (omega arith)
+
 sub-rule : tie.Need-sub-rule Inv-loop μ-loop
-sub-rule c =
-    let l = c .before .before in
-    let s = l .before .before .before in
-    omega (arith, numbered-at 31 (s .args .moves .now) (l .loop .i) (s .pre .0) (omega arith))
+sub-rule c = omega (arith, number c)
 
 cast-rule : tie.Need-cast-rule Inv-loop μ-loop
-cast-rule c =
-    let l = c .before .before in
-    let s = l .before .before .before in
-    omega (arith, numbered-at 31 (s .args .moves .now) (l .loop .i) (s .pre .0) (omega arith))
+cast-rule c = omega (arith, number c)
 
 mul-rule : tie.Need-mul-rule Inv-loop μ-loop
-mul-rule c =
-    let l = c .before .before in
-    let s = l .before .before .before in
-    omega (arith, numbered-at 31 (s .args .moves .now) (l .loop .i) (s .pre .0) (omega arith))
+mul-rule c = omega (arith, number c)
 
 element-copy-out-rule : tie.Need-element-copy-out-rule Inv-loop μ-loop
-element-copy-out-rule c =
-    let l = c .before .before in
-    let s = l .before .before .before in
-    omega (arith, numbered-at 31 (s .args .moves .now) (l .loop .i) (s .pre .0) (omega arith))
+element-copy-out-rule c = omega (arith, number c)
 
 extended-requires : tie.Need-extended-requires Inv-loop μ-loop
 extended-requires c κs = search needs
@@ -72,11 +79,13 @@ loop-less c = search needs
 loop-again : tie.Need-loop-again Inv-loop μ-loop
 unfolding ruleAt
 loop-again c =
-    let l = c .before .before .before .before .before in
-    let a = l .before .before .before .args in
+    let longer = c .before in
+    let l = headOf (longer .before .before) in
+    let a = startOf l .args in
     let left = cost-go (a .t1) (a .moves .now) (l .loop .i) _ refl (omega arith) in (
       search needs,
-      compose-go (a .t1) (a .moves .now) (l .loop .i) (l .loop .vectors) (l .loop .inv .1) _ _ refl (c .before .extended .ensures .0) (omega arith),
+      compose-go (a .t1) (a .moves .now) (l .loop .i) (l .loop .vectors) (l .loop .inv .1) _ _ refl
+          (longer .extended .ensures .0) (omega arith),
       omega (arith, left),
       search needs,
     )
@@ -84,8 +93,10 @@ loop-again c =
 returns : tie.Need-returns Inv-loop μ-loop
 returns c =
     let l = c .before in
-    let a = l .before .before .before .args in
-    (compose-end (a .t1) (a .moves .now) (l .loop .i) (l .loop .vectors) (l .loop .inv .1) (omega arith), omega (arith, cost-end (a .t1) (a .moves .now) (l .loop .i) (omega arith)))
+    let a = l .before .before .before .args in (
+      compose-end (a .t1) (a .moves .now) (l .loop .i) (l .loop .vectors) (l .loop .inv .1) (omega arith),
+      omega (arith, cost-end (a .t1) (a .moves .now) (l .loop .i) (omega arith)),
+    )
 
 pub profile-of-spec : {M : Type 1} → statement M
 profile-of-spec =
