@@ -114,12 +114,12 @@ dear = setOf "positions=1\nsizes=3\nrules=3\ncost=9\nif=0\nthen=2\ncost=1\nif=0\
 -- a query at reach 1 with a table that keeps all of three rules
 abbrev unpruned : RuleSet → List ℕ → List ℕ → ℕ → ℕ → ℕ → Question
 unpruned set start goal moves cost limit =
-    search set (record { reach = 1; table = replicate 8 255; start = start; goal = goal; maxMoves = moves; maxCost = cost; stepLimit = limit; planSize = moves })
+    search set (record { reach = 1; table = replicate 8 255; start = start; goal = goal; maxMoves = moves; maxCost = cost; stepLimit = limit }) moves
 
 -- a query of E at a reach, with a table, and with a start and a goal; 2 moves, cost bound 9
 abbrev faulty : ℕ → List ℕ → List ℕ → List ℕ → ℕ → ℕ → Question
 faulty reach table start goal limit room =
-    search E (record { reach = reach; table = table; start = start; goal = goal; maxMoves = 2; maxCost = 9; stepLimit = limit; planSize = room })
+    search E (record { reach = reach; table = table; start = start; goal = goal; maxMoves = 2; maxCost = 9; stepLimit = limit }) room
 
 abbrev both : ℕ → List ℕ
 both v = v ∷ v ∷ []
@@ -134,7 +134,7 @@ searches =
     ∷ record { asked = unpruned dear (0 ∷ []) (255 ∷ []) 2 20 4; expected = told 0 0 0 4 (255 ∷ 255 ∷ []) }
     ∷ record { asked = unpruned dear (0 ∷ []) (255 ∷ []) 2 20 3; expected = told 16 0 0 3 (255 ∷ 255 ∷ []) }
     -- the order of the refusals: each of these has later faults of the query too
-    ∷ record { asked = search emptySet (record { reach = 0; table = []; start = 0 ∷ []; goal = []; maxMoves = 1; maxCost = 0; stepLimit = 0; planSize = 0 }); expected = told 7 0 0 0 [] }
+    ∷ record { asked = search emptySet (record { reach = 0; table = []; start = 0 ∷ []; goal = []; maxMoves = 1; maxCost = 0; stepLimit = 0 }) 0; expected = told 7 0 0 0 [] }
     ∷ record { asked = faulty 0 [] (2 ∷ []) (2 ∷ []) 0 1; expected = told 5 0 0 0 (255 ∷ []) }
     ∷ record { asked = faulty 4 [] (2 ∷ []) (2 ∷ []) 0 1; expected = told 5 0 0 0 (255 ∷ []) }
     ∷ record { asked = faulty 2 (replicate 13 0) (2 ∷ []) (2 ∷ []) 0 1; expected = told 6 0 0 0 (255 ∷ []) }
@@ -151,15 +151,15 @@ searches =
 
 -- the query of P1
 abbrev first : Query
-first = record { reach = 2; table = builtTable E 2; start = both 1; goal = both 0; maxMoves = 2; maxCost = 9; stepLimit = 4; planSize = 3 }
+first = record { reach = 2; table = builtTable E 2; start = both 1; goal = both 0; maxMoves = 2; maxCost = 9; stepLimit = 4 }
 
 abbrev texts : List Row
 texts =
     record { asked = list fileE; expected = lists (bytes "reach=2\nrules=2\nmarks=3\ndrop=1,1\nfor=1\ndrop=2,1\nfor=1,2\ndrop=2,2\nfor=2\n") }
     ∷ record { asked = list "positions=17\n"; expected = lists (bytes "refused=2\n") }
     -- 0 + 256 · 2 + 65536 · 2 + 2^32 · 4
-    ∷ record { asked = enter fileE first; expected = packs 17180000768 (1 ∷ 2 ∷ 255 ∷ []) }
-    ∷ record { asked = enter "positions=17\n" first; expected = packs 2 (255 ∷ 255 ∷ 255 ∷ []) }
+    ∷ record { asked = enter fileE first 3; expected = packs 17180000768 (1 ∷ 2 ∷ 255 ∷ []) }
+    ∷ record { asked = enter "positions=17\n" first 3; expected = packs 2 (255 ∷ 255 ∷ 255 ∷ []) }
     ∷ []
 
 abbrev pub rows : List Row

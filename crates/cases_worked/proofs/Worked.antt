@@ -47,13 +47,13 @@ K = setOf "positions=3\nsizes=3,3,3\nrules=2\ncost=1\nif=x1,x2,x3\nthen=x1,x1,x3
 
 -- what is asked of a set, or of a file
 pub data Question : Type 0 where
-  search : RuleSet → Query → Question
+  search : RuleSet → Query → ℕ → Question
   macroOf : RuleSet → List ℕ → Question
   compose : RuleSet → List ℕ → Question
   build : RuleSet → ℕ → ℕ → Question
   check : RuleSet → ℕ → List ℕ → Question
   list : String → Question
-  enter : String → Query → Question
+  enter : String → Query → ℕ → Question
 
 -- the whole answer, with the buffer that the call leaves
 pub data Reply : Type 0 where
@@ -66,13 +66,14 @@ pub data Reply : Type 0 where
   packs : ℕ → List ℕ → Reply
 
 abbrev pub reply : Question → Reply
-reply (search set query) = finds (searched set query)
+reply (search set query room) = finds (searched set query room)
 reply (macroOf set moves) = composes (macroAnswer set moves)
 reply (compose set moves) = vectors (composed set moves)
 reply (build set reach size) = builds (buildOutcome set reach size) (builtBuffer set reach size)
 reply (check set reach table) = checks (checkOutcome set reach table)
 reply (list file) = lists (listing (bytes file))
-reply (enter file query) = packs (packedSearch (bytes file) query) (searchedText (bytes file) query .plan)
+reply (enter file query room) =
+    packs (packedSearch (bytes file) query room) (searchedText (bytes file) query room .plan)
 
 pub record Row : Type 0 where
   pub asked : Question
@@ -81,15 +82,16 @@ pub record Row : Type 0 where
 -- a query of E with its built table, start 1,1 and cost bound as given
 abbrev ofE : List ℕ → ℕ → ℕ → ℕ → ℕ → Question
 ofE goal moves cost limit room =
-    search E (record { reach = 2; table = builtTable E 2; start = 1 ∷ 1 ∷ []; goal = goal; maxMoves = moves; maxCost = cost; stepLimit = limit; planSize = room })
+    search E (record { reach = 2; table = builtTable E 2; start = 1 ∷ 1 ∷ []; goal = goal; maxMoves = moves; maxCost = cost; stepLimit = limit }) room
 
 -- a query of H with a table of reach 2: start 0,0,0, goal 3,1,1, 3 moves, cost bound 9, step limit 5
 abbrev ofH : List ℕ → ℕ → Question
 ofH table room =
-    search H (record { reach = 2; table = table; start = 0 ∷ 0 ∷ 0 ∷ []; goal = 3 ∷ 1 ∷ 1 ∷ []; maxMoves = 3; maxCost = 9; stepLimit = 5; planSize = room })
+    search H (record { reach = 2; table = table; start = 0 ∷ 0 ∷ 0 ∷ []; goal = 3 ∷ 1 ∷ 1 ∷ []; maxMoves = 3; maxCost = 9; stepLimit = 5 }) room
 
 abbrev pub told : ℕ → ℕ → ℕ → ℕ → List ℕ → Reply
-told outcome cost length steps plan = finds (record { answer = record { outcome = outcome; cost = cost; length = length; steps = steps }; plan = plan })
+told outcome cost n steps plan =
+    finds (record { answer = record { outcome = outcome; cost = cost; length = n; steps = steps }; plan = plan })
 
 -- the macro of three positions
 abbrev lines : List ℕ → List ℕ → ℕ → Reply

@@ -20,9 +20,9 @@ unfoldable pub textRefused : ℕ → ℕ → Searched
 textRefused outcome room = record { answer = record { outcome = outcome; cost = 0; length = 0; steps = 0 }; plan = replicate room noMove }
 
 -- the search of a rule text: 1 to 4 of the text come before all else
-unfoldable pub searchedText : List ℕ → Query → Searched
-searchedText text query = ofText text (λ set. searched set query) (λ n. textRefused n (query .planSize))
+unfoldable pub searchedText : List ℕ → Query → ℕ → Searched
+searchedText text query room = ofText text (λ set. searched set query room) (λ n. textRefused n room)
 
 -- the number that the entry gives
-unfoldable pub packedSearch : List ℕ → Query → ℕ
-packedSearch text query = packed (searchedText text query .answer)
+unfoldable pub packedSearch : List ℕ → Query → ℕ → ℕ
+packedSearch text query room = packed (searchedText text query room .answer)

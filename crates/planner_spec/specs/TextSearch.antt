@@ -9,10 +9,10 @@ use Rattle.search_spec.specs.Searched.{Searched, SearchMeaning}
 use Rattle.planner_spec.specs.Packed.{textRefused}
 
 -- what the search of a rule text tells and leaves
-pub record TextSearchMeaning (text : List ℕ) (query : Query) (found : Searched) : Type 0 where
+pub record TextSearchMeaning (text : List ℕ) (query : Query) (room : ℕ) (found : Searched) : Type 0 where
   -- of a refused text its own refusal, before all of the query's
-  pub refusedText : reading text .outcome ≢ 0 → found ≡ textRefused (reading text .outcome) (query .planSize)
+  pub refusedText : reading text .outcome ≢ 0 → found ≡ textRefused (reading text .outcome) room
   -- of any other what a search of its set means
-  pub readText : reading text .outcome ≡ 0 → SearchMeaning (reading text .set) query found
+  pub readText : reading text .outcome ≡ 0 → SearchMeaning (reading text .set) query room found
   -- a set that was read is valid
   pub never7 : found .answer .outcome ≢ 7

@@ -3,7 +3,7 @@ use checker::check_table;
 use model_spec::RuleSet;
 use search_spec::ANY_VALUE;
 ghost use mathlib.Core.Path.{_≡_};
-ghost use Prim.Native.Nat.{_≤_};
+ghost use Prim.Native.Nat.{ℕ, _≤_};
 ghost use Rattle.model_spec.specs.Refusals.{firstRefusal};
 ghost use Rattle.search_spec.specs.Query.{asked, startFits, goalFits};
 ghost use Rattle.search_spec.specs.Searched.{queryCauses};
@@ -50,8 +50,8 @@ fn goal_fits(set: RuleSet, goal: &[u8]) -> bool
     true
 }
 
-// The first cause for which a query is refused: 7, 5, 6, 9, 10, 11, 12 or 14; 0 if none holds. The table is checked first, and its 14 waits for 9 to 12.
-// The cost bound and the step limit refuse nothing here, and stand as 0 in the contract.
+// The first cause for which a query is refused, whatever its cost bound and its step limit are: 7, 5, 6, 9, 10, 11, 12
+// or 14; 0 if none holds. The table is checked first, and its 14 waits for 9 to 12.
 pub fn query_refusal(
     set: RuleSet,
     reach: usize,
@@ -61,7 +61,11 @@ pub fn query_refusal(
     max_moves: usize,
     plan_size: usize,
 ) -> u8
-    ensures { λ r. ⌜ r ≡ firstRefusal (queryCauses set (asked reach (now (table .entry)) (now (start .entry)) (now (goal .entry)) «max_moves» 0 0 «plan_size»)) ⌝ }
+    ensures { λ r. ⌜
+        ((maxCost stepLimit : ℕ)
+        → let query = asked reach (now (table .entry)) (now (start .entry)) (now (goal .entry))
+        «max_moves» maxCost stepLimit in
+        r ≡ firstRefusal (queryCauses set query «plan_size»)) ⌝ }
 {
     let checked = check_table(set, reach, table);
     if checked != 0 {

@@ -10,6 +10,7 @@ ghost use Prim.Native.Nat.{_≤_};
 ghost use lib.ListN.{length, take, drop};
 ghost use Rattle.search_spec.specs.Query.{asked};
 ghost use Rattle.search_spec.specs.Searched.{Searched, searched, SearchMeaning};
+ghost use Rattle.search_spec.specs.PlanPart.{PartMeaning};
 
 // An answer without a plan.
 fn without_plan(outcome: u8, steps: u32) -> Answer
@@ -50,12 +51,13 @@ pub fn search(
     plan: &mut [u8],
 ) -> Answer
     ensures { λ r. ⌜
-        (let query =
-        asked reach (now (table .entry)) (now (start .entry)) (now (goal .entry))
-        «max_moves» «max_cost» «step_limit» (length (now (plan .entry))) in
+        (let query = asked reach (now (table .entry)) (now (start .entry)) (now (goal .entry))
+        «max_moves» «max_cost» «step_limit» in
+        let room = length (now (plan .entry)) in
         let found : Searched = record { answer = r; plan = now (plan .exit) } in
-        (searched set query ≡ found)
-        × SearchMeaning set query found) ⌝ }
+        (searched set query room ≡ found)
+        × SearchMeaning set query room found
+        × PartMeaning set query room found) ⌝ }
 {
     fill_from(plan, 0, NO_MOVE);
     let found = explored(

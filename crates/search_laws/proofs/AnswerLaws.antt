@@ -18,9 +18,11 @@ use Rattle.model_spec.specs.Rules.{sequenceCost}
 use Rattle.model_spec.specs.declared.RuleSet.{RuleSet}
 use Rattle.search_spec.specs.Query.{Query, visitedBy}
 use Rattle.search_spec.specs.Searched.{queryCauses, cheapestPlan, noMove, Searched, searched, SearchMeaning}
+use Rattle.search_spec.specs.PlanPart.{PartMeaning}
 use Rattle.search_spec.specs.declared.Answer.{Answer}
 use Rattle.search_spec.proofs.Demand.{cheapest-leads}
 use Rattle.search_spec.proofs.MeaningLaws.{unrefused-iff, search-meaning}
+use Rattle.search_spec.proofs.PlanPartLaws.{part-meaning}
 use Rattle.search_spec.proofs.OutcomeLaws.{withoutPlan, searched-limited, searched-unsolvable, searched-solved}
 use Rattle.search_laws.specs.how.Visits.{bestOf, noBest, asBest, Explored}
 use Rattle.model_spec.proofs.CopyLaws.{copied-padded}
@@ -45,15 +47,18 @@ leftWith best steps blank =
       plan = take (best .length) (best .moves) ++ drop (best .length) blank;
     }
 
-module _ (set : RuleSet) (query : Query) where
+module _ (set : RuleSet) (query : Query) (room : ℕ) where
   -- an answer and a buffer that are what a search leaves have its meaning
-  pub answers : (r : Answer) (plan : List ℕ) (found : Searched) → r ≡ found .answer → plan ≡ found .plan → found ≡ searched set query
-      → (searched set query ≡ record { answer = r; plan = plan }) × SearchMeaning set query (record { answer = r; plan = plan })
+  pub answers : (r : Answer) (plan : List ℕ) (found : Searched) → r ≡ found .answer → plan ≡ found .plan → found ≡ searched set query room
+      → let left : Searched = record { answer = r; plan = plan } in
+      (searched set query room ≡ left) × SearchMeaning set query room left × PartMeaning set query room left
   answers r plan found a b e =
-      let whole : searched set query ≡ record { answer = r; plan = plan } = sym (ap₂ (λ r plan. record { answer = r; plan = plan }) a b ∙ e) in
-      (whole, subst (SearchMeaning set query) whole (search-meaning set query))
+      let left : Searched = record { answer = r; plan = plan } in
+      let whole : searched set query room ≡ left = sym (ap₂ (λ r plan. record { answer = r; plan = plan }) a b ∙ e) in
+      let means = subst (SearchMeaning set query room) whole (search-meaning set query room) in
+      (whole, means, part-meaning set query room left means)
 
-  module _ (h : firstRefusal (queryCauses set query) ≡ 0) where
+  module _ (h : firstRefusal (queryCauses set query room) ≡ 0) where
     module _ (progress : Progress) (explored : Explored set query progress) where
       abbrev best : Best
       best = progress .best
@@ -67,8 +72,8 @@ module _ (set : RuleSet) (query : Query) where
       exceeded-is : progress .exceeded ≡ ltb (query .stepLimit) count
       exceeded-is = explored .exceeded
 
-      pub explored-limited : progress .exceeded ≡ true → withoutPlan set query 16 (progress .steps) ≡ searched set query
-      explored-limited e = ap (withoutPlan set query 16) steps-are ∙ sym (searched-limited set query h (sym exceeded-is ∙ e))
+      pub explored-limited : progress .exceeded ≡ true → withoutPlan room 16 (progress .steps) ≡ searched set query room
+      explored-limited e = ap (withoutPlan room 16) steps-are ∙ sym (searched-limited set query room h (sym exceeded-is ∙ e))
 
       module _ (under : progress .exceeded ≡ false) where
         best-is : best ≡ asBest (sequenceCost set) (cheapestPlan set query)
@@ -91,8 +96,8 @@ module _ (set : RuleSet) (query : Query) where
             go none e = not-both y (ap (λ b. b .found) (best-is ∙ ap (asBest (sequenceCost set)) e))
             go (some p) e = (p, e)
 
-        pub explored-unsolvable : best .found ≡ false → withoutPlan set query 15 (progress .steps) ≡ searched set query
-        explored-unsolvable n = ap (withoutPlan set query 15) steps-are ∙ sym (searched-unsolvable set query h (sym exceeded-is ∙ under) (none-found n))
+        pub explored-unsolvable : best .found ≡ false → withoutPlan room 15 (progress .steps) ≡ searched set query room
+        explored-unsolvable n = ap (withoutPlan room 15) steps-are ∙ sym (searched-unsolvable set query room h (sym exceeded-is ∙ under) (none-found n))
 
         module _ (found : best .found ≡ true) where
           abbrev plan : Sequence
@@ -102,23 +107,23 @@ module _ (set : RuleSet) (query : Query) where
           unfolding asBest
           best-plan = best-is ∙ ap (asBest (sequenceCost set)) (some-found found .1)
 
-          plan-room : (length plan ≤ 32) × (length plan ≤ query .planSize)
+          plan-room : (length plan ≤ 32) × (length plan ≤ room)
           plan-room =
-              let w = unrefused-iff set query .0 h .0 in
+              let w = unrefused-iff set query room .0 h .0 in
               let leads = cheapest-leads set query plan (some-found found .1) .0 in
               (omega (arith, leads .runsWithin .moves, w), omega (arith, leads .runsWithin .moves, w))
 
           -- the moves of the best plan fit the buffer
-          pub explored-room : (best .length ≤ 32) × (best .length ≤ query .planSize)
+          pub explored-room : (best .length ≤ 32) × (best .length ≤ room)
           unfolding bestOf
-          explored-room = subst (λ b. (b .length ≤ 32) × (b .length ≤ query .planSize)) (sym best-plan) plan-room
+          explored-room = subst (λ b. (b .length ≤ 32) × (b .length ≤ room)) (sym best-plan) plan-room
 
           -- with the moves at the front of a blank buffer, that is what a search leaves
-          pub explored-solved : (blank : List ℕ) → blank ≡ replicate (query .planSize) noMove → leftWith (progress .best) (progress .steps) blank ≡ searched set query
+          pub explored-solved : (blank : List ℕ) → blank ≡ replicate room noMove → leftWith (progress .best) (progress .steps) blank ≡ searched set query room
           unfolding bestOf
           explored-solved blank e =
               ap₂ (λ b steps. leftWith b steps blank) best-plan steps-are ∙ ap (leftWith (bestOf (sequenceCost set plan) plan) (min count (query .stepLimit))) e
-              ∙ ap buffered (put-front plan (query .planSize) (plan-room .1)) ∙ sym (searched-solved set query h (sym exceeded-is ∙ under) plan (some-found found .1))
+              ∙ ap buffered (put-front plan room (plan-room .1)) ∙ sym (searched-solved set query room h (sym exceeded-is ∙ under) plan (some-found found .1))
             where
               buffered : List ℕ → Searched
               buffered buffer =

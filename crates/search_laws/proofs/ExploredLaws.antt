@@ -26,7 +26,7 @@ use Rattle.model_spec.specs.declared.RuleSet.{RuleSet}
 use Rattle.model_spec.proofs.ValidityLaws.{valid-closed}
 use Rattle.tables_spec.specs.Table.{marked}
 use Rattle.tables_spec.proofs.TableLaws.{accepted-iff, marked-short, accepted-justified}
-use Rattle.search_spec.specs.Query.{Query, asked, startState, meetsGoal, visitedBy, plansFor}
+use Rattle.search_spec.specs.Query.{Query, startState, meetsGoal, visitedBy, plansFor}
 use Rattle.search_spec.specs.Searched.{queryCauses, NotRefused, WellPosed, cheapestPlan}
 use Rattle.search_spec.proofs.VisitedLaws.{start-fits-iff}
 use Rattle.search_spec.proofs.PlanVisited.{start-state}
@@ -50,10 +50,10 @@ lent-cost : (set : RuleSet) → lentCost (map (λ rule. rule .cost) (set .rules)
 unfolding lentCost ruleCost ruleAt
 lent-cost set = fun-ext λ r. List·getD-map (λ rule. rule .cost) (set .rules) (r - 1) noRule
 
-module _ (set : RuleSet) (query : Query) (notRefused : NotRefused set query) (blocked : List ℕ)
+module _ (set : RuleSet) (query : Query) (room : ℕ) (notRefused : NotRefused set query room) (blocked : List ℕ)
     (looked : LooksUp (min (set .count) 31) (query .table) blocked) where
-  judged : WellPosed set query
-  judged = not-refused-iff set query .0 notRefused
+  judged : WellPosed set query room
+  judged = not-refused-iff set query room .0 notRefused
 
   looks : LooksUp (set .count) (query .table) blocked
   looks =
@@ -149,19 +149,12 @@ module _ (set : RuleSet) (query : Query) (notRefused : NotRefused set query) (bl
       → Explored set query found
   unfolding visitsFrom mayGoOn
   explored-whole conditions effects costs state limits found a b c s e is =
-      rw (is, a, b, c, s ∙ start-fits set query notRefused, e)
+      rw (is, a, b, c, s ∙ start-fits set query room notRefused, e)
       (subst (Explored set query) (sym (ap₂ visits (lent-step set) (lent-cost set))) visits-explored)
 
 -- ── The judgement of the query ───────────────────────────────────────────────────────────────────
 
--- neither the cost bound nor the step limit refuses anything
-pub same-refusal : (set : RuleSet) (query : Query) (refusal : ℕ)
-    → (let unbounded = asked (query .reach) (query .table) (query .start) (query .goal) (query .maxMoves) 0 0 (query .planSize) in
-    refusal ≡ firstRefusal (queryCauses set unbounded))
-    → refusal ≡ firstRefusal (queryCauses set query)
-unfolding queryCauses
-same-refusal set query refusal e = e
-
 -- a query without a refusal
-pub unrefused : (set : RuleSet) (query : Query) → firstRefusal (queryCauses set query) ≡ 0 → NotRefused set query
-unrefused set query e = not-refused-iff set query .1 (unrefused-iff set query .0 e)
+pub unrefused : (set : RuleSet) (query : Query) (room : ℕ) → firstRefusal (queryCauses set query room) ≡ 0
+    → NotRefused set query room
+unrefused set query room e = not-refused-iff set query room .1 (unrefused-iff set query room .0 e)

@@ -50,13 +50,13 @@ module _ (set : RuleSet) (v : WellFormed set) where
         (λ b. List·getD-eq-default s 0 {n = i} (omega (arith, k .0))) (below? i 16),
   )
 
-module _ (set : RuleSet) (query : Query) (notRefused : NotRefused set query) where
+module _ (set : RuleSet) (query : Query) (room : ℕ) (notRefused : NotRefused set query room) where
   -- what the search goes by
   abbrev pub limits : Limits
   limits = record { positions = set .positions; count = set .count; reach = query .reach; «max_cost» = query .maxCost; «step_limit» = query .stepLimit }
 
-  judged : WellPosed set query
-  judged = not-refused-iff set query .0 notRefused
+  judged : WellPosed set query room
+  judged = not-refused-iff set query room .0 notRefused
 
   valid : WellFormed set
   valid = judged .0 .0 .0 .0 .0 .0 .formed

@@ -25,9 +25,9 @@ use Rattle.search_spec.specs.Query.{Query, visitedBy, plansFor, LeadsToG
 use Rattle.search_spec.specs.Searched.{queryCauses, cheapestPlan, searchCauses, shownPlan, planOf, noMove, searchedWith, searched, NotRefused, Demand3}
 use Rattle.search_spec.proofs.VisitedLaws.{visited-iff, visited-once, plans-iff, plans-ordered}
 
-pub query-numbers : (set : RuleSet) (query : Query) → NonZero (queryCauses set query)
+pub query-numbers : (set : RuleSet) (query : Query) (room : ℕ) → NonZero (queryCauses set query room)
 unfolding queryCauses tableCauses
-query-numbers set query = (λ e. omega arith, (λ e. omega arith, (λ e. omega arith, (λ e. omega arith, (λ e. omega arith, (λ e. omega arith, (λ e. omega arith, (λ e. omega arith, tt))))))))
+query-numbers set query room = (λ e. omega arith, (λ e. omega arith, (λ e. omega arith, (λ e. omega arith, (λ e. omega arith, (λ e. omega arith, (λ e. omega arith, (λ e. omega arith, tt))))))))
 
 -- a buffer with no plan in it
 pub blank-buffer : (size : ℕ) → padded size noMove [] ≡ replicate size noMove
@@ -40,39 +40,6 @@ ends above plan = (16, above) ∷ (15, not (isSome plan)) ∷ []
 module _ (set : RuleSet) (query : Query) where
   abbrev count : ℕ
   count = length (visitedBy set query)
-
-  -- the three ways in which a query ends that is not refused, with the outcome of each
-  abbrev Limited : ℕ → Type 0
-  Limited outcome = (query .stepLimit < count) × (outcome ≡ 16)
-
-  abbrev Unsolvable : ℕ → Type 0
-  Unsolvable outcome = (count ≤ query .stepLimit) × (cheapestPlan set query ≡ none) × (outcome ≡ 15)
-
-  abbrev Solved : ℕ → Type 0
-  Solved outcome = (count ≤ query .stepLimit) × ((p : Sequence) × (cheapestPlan set query ≡ some p)) × (outcome ≡ 0)
-
-  abbrev outcome : ℕ
-  outcome = firstRefusal (searchCauses set query)
-
-  module _ (h : firstRefusal (queryCauses set query) ≡ 0) where
-    begins : outcome ≡ firstRefusal (ends (ltb (query .stepLimit) count) (cheapestPlan set query))
-    unfolding searchCauses
-    begins = refusal-append (queryCauses set query) (ends (ltb (query .stepLimit) count) (cheapestPlan set query)) (query-numbers set query) h
-
-    pub limited-outcome : ltb (query .stepLimit) count ≡ true → outcome ≡ 16
-    limited-outcome e = begins ∙ ap (λ b. firstRefusal (ends b (cheapestPlan set query))) e
-
-    -- the limit is not exceeded
-    pub unlimited-outcome : ltb (query .stepLimit) count ≡ false → (o : Option Sequence) → cheapestPlan set query ≡ o → outcome ≡ firstRefusal (ends false o)
-    unlimited-outcome e o k = begins ∙ ap (λ b. firstRefusal (ends b (cheapestPlan set query))) e ∙ ap (λ p. firstRefusal (ends false p)) k
-
-    ways : Limited outcome ⊎ (Unsolvable outcome ⊎ Solved outcome)
-    ways = byCount (ltb (query .stepLimit) count) refl (cheapestPlan set query) refl
-      where
-        byCount : (b : Bool) → ltb (query .stepLimit) count ≡ b → (o : Option Sequence) → cheapestPlan set query ≡ o → Limited outcome ⊎ (Unsolvable outcome ⊎ Solved outcome)
-        byCount true e o k = inl (ltb-true (query .stepLimit) count e, limited-outcome e)
-        byCount false e none k = inr (inl (ltb-false (query .stepLimit) count e, k, unlimited-outcome e none k))
-        byCount false e (some p) k = inr (inr (ltb-false (query .stepLimit) count e, (p, k), unlimited-outcome e (some p) k))
 
   -- the cheapest plan leads to the goal, and is preferred to every other sequence that does
   pub cheapest-leads : (p : Sequence) → cheapestPlan set query ≡ some p → LeadsToGoal set query p × ((q : Sequence) → LeadsToGoal set query q → (q ≡ p) ⊎ Preferred (ruleCost set) p q)
@@ -91,53 +58,87 @@ module _ (set : RuleSet) (query : Query) where
   unfolding shownPlan
   shown-plan p e = ap planOf e
 
-  -- demand 3: what holds of the answer of every query that is not refused
-  pub demand-3 : NotRefused set query → Demand3 set query (searched set query)
-  unfolding searched searchedWith shownPlan sequenceCost
-  demand-3 h = byWay outcome (ways (no-refusal-iff (queryCauses set query) (query-numbers set query) .1 h))
-    where
-      Holds : ℕ → Type 0
-      Holds outcome = Demand3 set query (searchedWith set query outcome)
+  -- the three ways in which a query ends that is not refused, with the outcome of each
+  abbrev Limited : ℕ → Type 0
+  Limited outcome = (query .stepLimit < count) × (outcome ≡ 16)
 
-      limited : query .stepLimit < count → Holds 16
-      limited above =
-          record {
-            counted = visited-iff set query;
-            once = visited-once set query;
-            steps = refl;
-            limitExceeded = (λ _. above, λ _. refl);
-            noPlan = λ n. absurd (n refl);
-            planFound = λ n. absurd (n refl);
-            cheapestShown = λ e. absurd (omega arith);
-          }
+  abbrev Unsolvable : ℕ → Type 0
+  Unsolvable outcome = (count ≤ query .stepLimit) × (cheapestPlan set query ≡ none) × (outcome ≡ 15)
 
-      unsolvable : count ≤ query .stepLimit → cheapestPlan set query ≡ none → Holds 15
-      unsolvable under e =
-          record {
-            counted = visited-iff set query;
-            once = visited-once set query;
-            steps = refl;
-            limitExceeded = (λ k. absurd (omega arith), λ k. absurd (omega arith));
-            noPlan = λ _. (λ _. none-leads e, λ _. refl);
-            planFound = λ _ n. absurd (n refl);
-            cheapestShown = λ k. absurd (omega arith);
-          }
+  abbrev Solved : ℕ → Type 0
+  Solved outcome = (count ≤ query .stepLimit) × ((p : Sequence) × (cheapestPlan set query ≡ some p)) × (outcome ≡ 0)
 
-      solved : count ≤ query .stepLimit → (p : Sequence) → cheapestPlan set query ≡ some p → Holds 0
-      solved under p e =
-          let leads = cheapest-leads p e in
-          let shown : shownPlan set query 0 ≡ p = shown-plan p e in
-          record {
-            counted = visited-iff set query;
-            once = visited-once set query;
-            steps = refl;
-            limitExceeded = (λ k. absurd (omega arith), λ k. absurd (omega arith));
-            noPlan = λ _. (λ k. absurd (omega arith), λ n. absurd (n p (leads .0)));
-            planFound = λ _ _. refl;
-            cheapestShown = λ _. (p, leads .0, ap (sequenceCost set) shown, ap length shown, ap (padded (query .planSize) noMove) shown, leads .1);
-          }
+  module _ (room : ℕ) where
+    abbrev outcome : ℕ
+    outcome = firstRefusal (searchCauses set query room)
 
-      byWay : (outcome : ℕ) → Limited outcome ⊎ (Unsolvable outcome ⊎ Solved outcome) → Holds outcome
-      byWay outcome (inl w) = subst Holds (sym (w .1)) (limited (w .0))
-      byWay outcome (inr (inl w)) = subst Holds (sym (w .2)) (unsolvable (w .0) (w .1))
-      byWay outcome (inr (inr w)) = subst Holds (sym (w .2)) (solved (w .0) (w .1 .0) (w .1 .1))
+    module _ (h : firstRefusal (queryCauses set query room) ≡ 0) where
+      begins : outcome ≡ firstRefusal (ends (ltb (query .stepLimit) count) (cheapestPlan set query))
+      unfolding searchCauses
+      begins = refusal-append (queryCauses set query room) (ends (ltb (query .stepLimit) count) (cheapestPlan set query)) (query-numbers set query room) h
+
+      pub limited-outcome : ltb (query .stepLimit) count ≡ true → outcome ≡ 16
+      limited-outcome e = begins ∙ ap (λ b. firstRefusal (ends b (cheapestPlan set query))) e
+
+      -- the limit is not exceeded
+      pub unlimited-outcome : ltb (query .stepLimit) count ≡ false → (o : Option Sequence) → cheapestPlan set query ≡ o → outcome ≡ firstRefusal (ends false o)
+      unlimited-outcome e o k = begins ∙ ap (λ b. firstRefusal (ends b (cheapestPlan set query))) e ∙ ap (λ p. firstRefusal (ends false p)) k
+
+      ways : Limited outcome ⊎ (Unsolvable outcome ⊎ Solved outcome)
+      ways = byCount (ltb (query .stepLimit) count) refl (cheapestPlan set query) refl
+        where
+          byCount : (b : Bool) → ltb (query .stepLimit) count ≡ b → (o : Option Sequence) → cheapestPlan set query ≡ o → Limited outcome ⊎ (Unsolvable outcome ⊎ Solved outcome)
+          byCount true e o k = inl (ltb-true (query .stepLimit) count e, limited-outcome e)
+          byCount false e none k = inr (inl (ltb-false (query .stepLimit) count e, k, unlimited-outcome e none k))
+          byCount false e (some p) k = inr (inr (ltb-false (query .stepLimit) count e, (p, k), unlimited-outcome e (some p) k))
+
+    -- demand 3: what holds of the answer of every query that is not refused
+    pub demand-3 : NotRefused set query room → Demand3 set query room (searched set query room)
+    unfolding searched searchedWith shownPlan sequenceCost
+    demand-3 h = byWay outcome (ways (no-refusal-iff (queryCauses set query room) (query-numbers set query room) .1 h))
+      where
+        Holds : ℕ → Type 0
+        Holds outcome = Demand3 set query room (searchedWith set query room outcome)
+
+        limited : query .stepLimit < count → Holds 16
+        limited above =
+            record {
+              counted = visited-iff set query;
+              once = visited-once set query;
+              steps = refl;
+              limitExceeded = (λ _. above, λ _. refl);
+              noPlan = λ n. absurd (n refl);
+              planFound = λ n. absurd (n refl);
+              cheapestShown = λ e. absurd (omega arith);
+            }
+
+        unsolvable : count ≤ query .stepLimit → cheapestPlan set query ≡ none → Holds 15
+        unsolvable under e =
+            record {
+              counted = visited-iff set query;
+              once = visited-once set query;
+              steps = refl;
+              limitExceeded = (λ k. absurd (omega arith), λ k. absurd (omega arith));
+              noPlan = λ _. (λ _. none-leads e, λ _. refl);
+              planFound = λ _ n. absurd (n refl);
+              cheapestShown = λ k. absurd (omega arith);
+            }
+
+        solved : count ≤ query .stepLimit → (p : Sequence) → cheapestPlan set query ≡ some p → Holds 0
+        solved under p e =
+            let leads = cheapest-leads p e in
+            let shown : shownPlan set query 0 ≡ p = shown-plan p e in
+            record {
+              counted = visited-iff set query;
+              once = visited-once set query;
+              steps = refl;
+              limitExceeded = (λ k. absurd (omega arith), λ k. absurd (omega arith));
+              noPlan = λ _. (λ k. absurd (omega arith), λ n. absurd (n p (leads .0)));
+              planFound = λ _ _. refl;
+              cheapestShown = λ _. (p, leads .0, ap (sequenceCost set) shown, ap length shown, ap (padded room noMove) shown, leads .1);
+            }
+
+        byWay : (outcome : ℕ) → Limited outcome ⊎ (Unsolvable outcome ⊎ Solved outcome) → Holds outcome
+        byWay outcome (inl w) = subst Holds (sym (w .1)) (limited (w .0))
+        byWay outcome (inr (inl w)) = subst Holds (sym (w .2)) (unsolvable (w .0) (w .1))
+        byWay outcome (inr (inr w)) = subst Holds (sym (w .2)) (solved (w .0) (w .1 .0) (w .1 .1))

@@ -5,6 +5,7 @@ use mathlib.Core.Logic.{_↔_, _≢_, Iff·trans}
 use mathlib.Core.Bool.{Bool, true, false, not}
 use mathlib.Core.Option.{Option, some, none}
 use mathlib.Core.List.{List, [], _∷_, _++_}
+use Prim.Native.Nat.{ℕ}
 use native.Mathlib.Omega.{arith}
 use lib.Dec.{ltb}
 use lib.ListN.{length, drop}
@@ -48,7 +49,7 @@ unfailed-iff t i = (λ e. i .0 (not-false t e), λ p. ap not (i .1 p))
 
 -- ── The causes in turn ───────────────────────────────────────────────────────────────────────────
 
-module _ (set : RuleSet) (query : Query) where
+module _ (set : RuleSet) (query : Query) (room : ℕ) where
   abbrev untilTable : List Cause
   untilTable = tableCauses set (query .reach) (length (query .table))
 
@@ -62,7 +63,7 @@ module _ (set : RuleSet) (query : Query) where
   untilMoves = untilGoal ++ ((11, ltb 32 (query .maxMoves)) ∷ [])
 
   abbrev untilRoom : List Cause
-  untilRoom = untilMoves ++ ((12, ltb (query .planSize) (query .maxMoves)) ∷ [])
+  untilRoom = untilMoves ++ ((12, ltb room (query .maxMoves)) ∷ [])
 
   start-iff : (startFits set (query .start) ≡ true) ↔ StartFits set (query .start)
   start-iff = start-fits-iff set (query .start)
@@ -89,44 +90,44 @@ module _ (set : RuleSet) (query : Query) where
   moves-passed-iff : NoneHolds untilMoves ↔ MovesPassed set query
   moves-passed-iff = passed-iff untilGoal 11 _ goal-passed-iff (ltb-false 32 (query .maxMoves), le-ltb 32 (query .maxMoves))
 
-  room-passed-iff : NoneHolds untilRoom ↔ RoomPassed set query
-  room-passed-iff = passed-iff untilMoves 12 _ moves-passed-iff (ltb-false (query .planSize) (query .maxMoves), le-ltb (query .planSize) (query .maxMoves))
+  room-passed-iff : NoneHolds untilRoom ↔ RoomPassed set query room
+  room-passed-iff = passed-iff untilMoves 12 _ moves-passed-iff (ltb-false room (query .maxMoves), le-ltb room (query .maxMoves))
 
   -- a query is not refused exactly if it has no fault
-  pub not-refused-iff : NotRefused set query ↔ WellPosed set query
+  pub not-refused-iff : NotRefused set query room ↔ WellPosed set query room
   unfolding queryCauses tableCauses
   not-refused-iff = passed-iff untilRoom 14 _ room-passed-iff (unfailed-iff _ accepts-iff)
 
   -- and exactly then the first refusal is 0
-  pub unrefused-iff : (firstRefusal (queryCauses set query) ≡ 0) ↔ WellPosed set query
-  unrefused-iff = Iff·trans (no-refusal-iff (queryCauses set query) (query-numbers set query)) not-refused-iff
+  pub unrefused-iff : (firstRefusal (queryCauses set query room) ≡ 0) ↔ WellPosed set query room
+  unrefused-iff = Iff·trans (no-refusal-iff (queryCauses set query room) (query-numbers set query room)) not-refused-iff
 
   -- a refusal is the outcome, and none of the outcomes of an answer
-  module _ (refused : firstRefusal (queryCauses set query) ≢ 0) where
-    pub refused-outcome : firstRefusal (searchCauses set query) ≡ firstRefusal (queryCauses set query)
+  module _ (refused : firstRefusal (queryCauses set query room) ≢ 0) where
+    pub refused-outcome : firstRefusal (searchCauses set query room) ≡ firstRefusal (queryCauses set query room)
     unfolding searchCauses
-    refused-outcome = refusal-before (queryCauses set query) (ends (ltb (query .stepLimit) (length (visitedBy set query))) (cheapestPlan set query)) refused
+    refused-outcome = refusal-before (queryCauses set query room) (ends (ltb (query .stepLimit) (length (visitedBy set query))) (cheapestPlan set query)) refused
 
-    pub refused-no-answer : isAnswer (firstRefusal (queryCauses set query)) ≡ false
+    pub refused-no-answer : isAnswer (firstRefusal (queryCauses set query room)) ≡ false
     unfolding queryCauses tableCauses
     refused-no-answer =
-        let causes = queryCauses set query in
+        let causes = queryCauses set query room in
         let none = ne-eqb (firstRefusal causes) 0 refused in
         let unsolvable = ne-eqb (firstRefusal causes) 15 (other-number causes 15 (λ e. omega arith) refl) in
         let limited = ne-eqb (firstRefusal causes) 16 (other-number causes 16 (λ e. omega arith) refl) in
         rw (none, unsolvable, limited)
 
-  refused-no-steps : (WellPosed set query → ⊥) → searched set query .answer .steps ≡ 0
+  refused-no-steps : (WellPosed set query room → ⊥) → searched set query room .answer .steps ≡ 0
   unfolding searched searchedWith
   refused-no-steps n =
-      let refused : firstRefusal (queryCauses set query) ≢ 0 = λ e. n (unrefused-iff .0 e) in
-      refused-steps set query (ap isAnswer (refused-outcome refused) ∙ refused-no-answer refused)
+      let refused : firstRefusal (queryCauses set query room) ≢ 0 = λ e. n (unrefused-iff .0 e) in
+      refused-steps set query room (ap isAnswer (refused-outcome refused) ∙ refused-no-answer refused)
 
   -- ── Limit and plan ─────────────────────────────────────────────────────────────────────────────
 
-  within-limit-iff : NoneHolds (queryCauses set query ++ ((16, ltb (query .stepLimit) (length (visitedBy set query))) ∷ [])) ↔ WithinLimit set query
+  within-limit-iff : NoneHolds (queryCauses set query room ++ ((16, ltb (query .stepLimit) (length (visitedBy set query))) ∷ [])) ↔ WithinLimit set query room
   within-limit-iff =
-      passed-iff (queryCauses set query) 16 _ not-refused-iff
+      passed-iff (queryCauses set query room) 16 _ not-refused-iff
       (ltb-false (query .stepLimit) (length (visitedBy set query)), le-ltb (query .stepLimit) (length (visitedBy set query)))
 
   -- there is a cheapest plan exactly if some sequence leads to the goal
@@ -140,11 +141,11 @@ module _ (set : RuleSet) (query : Query) where
   no-plan-iff : (not (isSome (cheapestPlan set query)) ≡ true) ↔ ((q : Sequence) → LeadsToGoal set query q → ⊥)
   no-plan-iff = let i = not-iff (isSome (cheapestPlan set query)) some-plan-iff in (λ e q h. i .0 e (q, h), λ n. i .1 (λ w. n (w .0) (w .1)))
 
-  pub search-meaning : SearchMeaning set query (searched set query)
+  pub search-meaning : SearchMeaning set query room (searched set query room)
   unfolding searched searchedWith searchCauses queryCauses tableCauses buildOutcome
   search-meaning =
       let shared = build-meaning set (query .reach) (length (query .table)) in
-      let causes = searchCauses set query in
+      let causes = searchCauses set query room in
       record {
         notValid = Iff·trans (early-iff untilTable (drop 3 causes) 7 (λ e. omega arith) refl) (shared .notValid);
         badReach = Iff·trans (early-iff untilTable (drop 3 causes) 5 (λ e. omega arith) refl) (shared .badReach);
@@ -152,14 +153,14 @@ module _ (set : RuleSet) (query : Query) where
         badStart = refused-iff untilTable 9 _ ready-iff (drop 4 causes) (λ e. omega arith) refl refl (not-iff _ start-iff);
         badGoal = refused-iff untilStart 10 _ start-passed-iff (drop 5 causes) (λ e. omega arith) refl refl (not-iff _ goal-iff);
         manyMoves = refused-iff untilGoal 11 _ goal-passed-iff (drop 6 causes) (λ e. omega arith) refl refl (ltb-iff 32 (query .maxMoves));
-        smallBuffer = refused-iff untilMoves 12 _ moves-passed-iff (drop 7 causes) (λ e. omega arith) refl refl (ltb-iff (query .planSize) (query .maxMoves));
+        smallBuffer = refused-iff untilMoves 12 _ moves-passed-iff (drop 7 causes) (λ e. omega arith) refl refl (ltb-iff room (query .maxMoves));
         notAccepted = refused-iff untilRoom 14 _ room-passed-iff (drop 8 causes) (λ e. omega arith) refl refl (not-iff _ accepts-iff);
-        limited = refused-iff (queryCauses set query) 16 _ not-refused-iff (drop 9 causes) (λ e. omega arith) refl refl (ltb-iff (query .stepLimit) (length (visitedBy set query)));
-        unsolvable = refused-iff (queryCauses set query ++ ((16, ltb (query .stepLimit) (length (visitedBy set query))) ∷ [])) 15 _ within-limit-iff [] (λ e. omega arith) refl refl no-plan-iff;
+        limited = refused-iff (queryCauses set query room) 16 _ not-refused-iff (drop 9 causes) (λ e. omega arith) refl refl (ltb-iff (query .stepLimit) (length (visitedBy set query)));
+        unsolvable = refused-iff (queryCauses set query room ++ ((16, ltb (query .stepLimit) (length (visitedBy set query))) ∷ [])) 15 _ within-limit-iff [] (λ e. omega arith) refl refl no-plan-iff;
         solved =
-            Iff·trans (no-refusal-iff causes (search-numbers set query))
-            (passed-iff (queryCauses set query ++ ((16, ltb (query .stepLimit) (length (visitedBy set query))) ∷ [])) 15 _ within-limit-iff (unfailed-iff _ some-plan-iff));
-        answered = λ f. demand-3 set query (not-refused-iff .1 f);
+            Iff·trans (no-refusal-iff causes (search-numbers set query room))
+            (passed-iff (queryCauses set query room ++ ((16, ltb (query .stepLimit) (length (visitedBy set query))) ∷ [])) 15 _ within-limit-iff (unfailed-iff _ some-plan-iff));
+        answered = λ f. demand-3 set query room (not-refused-iff .1 f);
         noSteps = refused-no-steps;
-        noPlanShown = searched-blank set query;
+        noPlanShown = searched-blank set query room;
       }

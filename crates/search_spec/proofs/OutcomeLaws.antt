@@ -31,9 +31,9 @@ abbrev pub unaccepted : RuleSet → Query → Cause
 unaccepted set query = (14, not (accepted set (query .reach) (query .table)))
 
 -- the causes of a query alone, in turn, and then that its table is not accepted
-abbrev pub ownCauses : RuleSet → Query → List Cause
-ownCauses set query =
-    (9, not (startFits set (query .start))) ∷ (10, not (goalFits set (query .goal))) ∷ (11, ltb 32 (query .maxMoves)) ∷ (12, ltb (query .planSize) (query .maxMoves)) ∷ unaccepted set query ∷ []
+abbrev pub ownCauses : RuleSet → Query → ℕ → List Cause
+ownCauses set query room =
+    (9, not (startFits set (query .start))) ∷ (10, not (goalFits set (query .goal))) ∷ (11, ltb 32 (query .maxMoves)) ∷ (12, ltb room (query .maxMoves)) ∷ unaccepted set query ∷ []
 
 module _ (set : RuleSet) (query : Query) where
   abbrev shared : List Cause
@@ -52,38 +52,38 @@ module _ (set : RuleSet) (query : Query) where
   checked-ready = let m = check-meaning set (query .reach) (query .table) in ⊎-elim (λ e. m .notAccepted .0 e .0) (λ e. m .accepts .0 e .0)
 
   -- then the query's own causes decide in turn, and last the check's
-  module _ (r : Ready set (query .reach) (length (query .table))) where
-    own-refusal : firstRefusal (ownCauses set query) ≡ firstRefusal (queryCauses set query)
+  module _ (room : ℕ) (r : Ready set (query .reach) (length (query .table))) where
+    own-refusal : firstRefusal (ownCauses set query room) ≡ firstRefusal (queryCauses set query room)
     unfolding queryCauses tableCauses
-    own-refusal = sym (past-shared r (ownCauses set query))
+    own-refusal = sym (past-shared r (ownCauses set query room))
 
-    pub start-refusal : startFits set (query .start) ≡ false → 9 ≡ firstRefusal (queryCauses set query)
-    start-refusal e = let t : firstRefusal (ownCauses set query) ≡ 9 = rw e in sym t ∙ own-refusal
+    pub start-refusal : startFits set (query .start) ≡ false → 9 ≡ firstRefusal (queryCauses set query room)
+    start-refusal e = let t : firstRefusal (ownCauses set query room) ≡ 9 = rw e in sym t ∙ own-refusal
 
     module _ (s : startFits set (query .start) ≡ true) where
-      pub goal-refusal : goalFits set (query .goal) ≡ false → 10 ≡ firstRefusal (queryCauses set query)
-      goal-refusal e = let t : firstRefusal (ownCauses set query) ≡ 10 = rw (s, e) in sym t ∙ own-refusal
+      pub goal-refusal : goalFits set (query .goal) ≡ false → 10 ≡ firstRefusal (queryCauses set query room)
+      goal-refusal e = let t : firstRefusal (ownCauses set query room) ≡ 10 = rw (s, e) in sym t ∙ own-refusal
 
       module _ (g : goalFits set (query .goal) ≡ true) where
-        pub moves-refusal : 32 < query .maxMoves → 11 ≡ firstRefusal (queryCauses set query)
-        moves-refusal h = let t : firstRefusal (ownCauses set query) ≡ 11 = rw (s, g, lt-ltb 32 (query .maxMoves) h) in sym t ∙ own-refusal
+        pub moves-refusal : 32 < query .maxMoves → 11 ≡ firstRefusal (queryCauses set query room)
+        moves-refusal h = let t : firstRefusal (ownCauses set query room) ≡ 11 = rw (s, g, lt-ltb 32 (query .maxMoves) h) in sym t ∙ own-refusal
 
         module _ (m : query .maxMoves ≤ 32) where
-          pub room-refusal : query .planSize < query .maxMoves → 12 ≡ firstRefusal (queryCauses set query)
+          pub room-refusal : room < query .maxMoves → 12 ≡ firstRefusal (queryCauses set query room)
           room-refusal h =
-              let t : firstRefusal (ownCauses set query) ≡ 12 = rw (s, g, le-ltb 32 (query .maxMoves) m, lt-ltb (query .planSize) (query .maxMoves) h) in
+              let t : firstRefusal (ownCauses set query room) ≡ 12 = rw (s, g, le-ltb 32 (query .maxMoves) m, lt-ltb room (query .maxMoves) h) in
               sym t ∙ own-refusal
 
-          pub last-refusal : query .maxMoves ≤ query .planSize → checked ≡ firstRefusal (queryCauses set query)
+          pub last-refusal : query .maxMoves ≤ room → checked ≡ firstRefusal (queryCauses set query room)
           unfolding checkOutcome checkCauses tableCauses
           last-refusal h =
-              let t : firstRefusal (ownCauses set query) ≡ firstRefusal (unaccepted set query ∷ []) = rw (s, g, le-ltb 32 (query .maxMoves) m, le-ltb (query .planSize) (query .maxMoves) h) in
+              let t : firstRefusal (ownCauses set query room) ≡ firstRefusal (unaccepted set query ∷ []) = rw (s, g, le-ltb 32 (query .maxMoves) m, le-ltb room (query .maxMoves) h) in
               past-shared r (unaccepted set query ∷ []) ∙ sym t ∙ own-refusal
 
   -- any other refusal of the check is the query's
-  pub shared-refusal : checked ≢ 0 → checked ≢ 14 → checked ≡ firstRefusal (queryCauses set query)
+  pub shared-refusal : (room : ℕ) → checked ≢ 0 → checked ≢ 14 → checked ≡ firstRefusal (queryCauses set query room)
   unfolding checkOutcome checkCauses queryCauses tableCauses buildOutcome
-  shared-refusal h₀ h₁₄ = refusal-before shared (unaccepted set query ∷ []) refused ∙ sym (refusal-before shared (ownCauses set query) refused)
+  shared-refusal room h₀ h₁₄ = refusal-before shared (unaccepted set query ∷ []) refused ∙ sym (refusal-before shared (ownCauses set query room) refused)
     where
       one-of : (b : Bool) → firstRefusal ((14, not b) ∷ []) ≢ 0 → firstRefusal ((14, not b) ∷ []) ≢ 14 → ⊥
       one-of true h _ = h refl
@@ -96,41 +96,49 @@ module _ (set : RuleSet) (query : Query) where
 
 -- ── What a search leaves with each outcome ───────────────────────────────────────────────────────
 
-module _ (set : RuleSet) (query : Query) where
+-- with a plan
+abbrev pub withPlan : RuleSet → ℕ → Sequence → ℕ → Searched
+withPlan set room p steps =
+    record {
+      answer = record { outcome = 0; cost = sequenceCost set p; length = length p; steps = steps };
+      plan = padded room noMove p;
+    }
+
+-- without one
+abbrev pub withoutPlan : ℕ → ℕ → ℕ → Searched
+withoutPlan room outcome steps =
+    record {
+      answer = record { outcome = outcome; cost = 0; length = 0; steps = steps };
+      plan = replicate room noMove;
+    }
+
+module _ (set : RuleSet) (query : Query) (room : ℕ) where
   abbrev refusal : ℕ
-  refusal = firstRefusal (queryCauses set query)
+  refusal = firstRefusal (queryCauses set query room)
 
   abbrev count : ℕ
   count = length (visitedBy set query)
 
-  -- with a plan
-  abbrev pub withPlan : Sequence → ℕ → Searched
-  withPlan p steps = record { answer = record { outcome = 0; cost = sequenceCost set p; length = length p; steps = steps }; plan = padded (query .planSize) noMove p }
-
-  -- without one
-  abbrev pub withoutPlan : ℕ → ℕ → Searched
-  withoutPlan outcome steps = record { answer = record { outcome = outcome; cost = 0; length = 0; steps = steps }; plan = replicate (query .planSize) noMove }
-
-  shown-none : (outcome : ℕ) → outcome ≢ 0 → searchedWith set query outcome ≡ withoutPlan outcome (cond (isAnswer outcome) (min count (query .stepLimit)) 0)
+  shown-none : (outcome : ℕ) → outcome ≢ 0 → searchedWith set query room outcome ≡ withoutPlan room outcome (cond (isAnswer outcome) (min count (query .stepLimit)) 0)
   unfolding searchedWith shownPlan sequenceCost
-  shown-none outcome h = rw (ne-eqb outcome 0 h, blank-buffer (query .planSize))
+  shown-none outcome h = rw (ne-eqb outcome 0 h, blank-buffer room)
 
-  pub searched-refused : refusal ≢ 0 → searched set query ≡ withoutPlan refusal 0
+  pub searched-refused : refusal ≢ 0 → searched set query room ≡ withoutPlan room refusal 0
   unfolding searched
   searched-refused h =
-      ap (searchedWith set query) (refused-outcome set query h) ∙ shown-none refusal h
-      ∙ ap (λ b. withoutPlan refusal (cond b (min count (query .stepLimit)) 0)) (refused-no-answer set query h)
+      ap (searchedWith set query room) (refused-outcome set query room h) ∙ shown-none refusal h
+      ∙ ap (λ b. withoutPlan room refusal (cond b (min count (query .stepLimit)) 0)) (refused-no-answer set query room h)
 
   module _ (h : refusal ≡ 0) where
-    pub searched-limited : ltb (query .stepLimit) count ≡ true → searched set query ≡ withoutPlan 16 (min count (query .stepLimit))
+    pub searched-limited : ltb (query .stepLimit) count ≡ true → searched set query room ≡ withoutPlan room 16 (min count (query .stepLimit))
     unfolding searched
-    searched-limited e = ap (searchedWith set query) (limited-outcome set query h e) ∙ shown-none 16 (λ k. omega arith)
+    searched-limited e = ap (searchedWith set query room) (limited-outcome set query room h e) ∙ shown-none 16 (λ k. omega arith)
 
-    pub searched-unsolvable : ltb (query .stepLimit) count ≡ false → cheapestPlan set query ≡ none → searched set query ≡ withoutPlan 15 (min count (query .stepLimit))
+    pub searched-unsolvable : ltb (query .stepLimit) count ≡ false → cheapestPlan set query ≡ none → searched set query room ≡ withoutPlan room 15 (min count (query .stepLimit))
     unfolding searched
-    searched-unsolvable e k = ap (searchedWith set query) (unlimited-outcome set query h e none k) ∙ shown-none 15 (λ k. omega arith)
+    searched-unsolvable e k = ap (searchedWith set query room) (unlimited-outcome set query room h e none k) ∙ shown-none 15 (λ k. omega arith)
 
-    pub searched-solved : ltb (query .stepLimit) count ≡ false → (p : Sequence) → cheapestPlan set query ≡ some p → searched set query ≡ withPlan p (min count (query .stepLimit))
+    pub searched-solved : ltb (query .stepLimit) count ≡ false → (p : Sequence) → cheapestPlan set query ≡ some p → searched set query room ≡ withPlan set room p (min count (query .stepLimit))
     unfolding searched searchedWith
     searched-solved e p k =
-        ap (searchedWith set query) (unlimited-outcome set query h e (some p) k) ∙ ap (λ q. withPlan q (min count (query .stepLimit))) (shown-plan set query p k)
+        ap (searchedWith set query room) (unlimited-outcome set query room h e (some p) k) ∙ ap (λ q. withPlan set room q (min count (query .stepLimit))) (shown-plan set query p k)

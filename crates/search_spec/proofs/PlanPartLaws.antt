@@ -37,23 +37,23 @@ part-before p rest = rw (le-leb (length p) (length (p ++ rest)) (omega (arith, l
 
 -- ── Of what a search leaves ──────────────────────────────────────────────────────────────────────
 
-module _ (set : RuleSet) (query : Query) where
-  module _ (found : Searched) (means : SearchMeaning set query found) where
+module _ (set : RuleSet) (query : Query) (room : ℕ) where
+  module _ (found : Searched) (means : SearchMeaning set query room found) where
     -- the buffer holds p, and 255 in every other byte
     abbrev Holds : Sequence → Type 0
-    Holds p = (found .answer .length ≡ length p) × (found .plan ≡ padded (query .planSize) noMove p)
+    Holds p = (found .answer .length ≡ length p) × (found .plan ≡ padded room noMove p)
 
     held : (p : Sequence) → Holds p → partOf found ≡ p
-    held p h = rw (h .1, h .0) (part-before p (replicate (query .planSize - length p) noMove))
+    held p h = rw (h .1, h .0) (part-before p (replicate (room - length p) noMove))
 
-    rest : (p : Sequence) → Holds p → found .plan ≡ padded (query .planSize) noMove (partOf found)
+    rest : (p : Sequence) → Holds p → found .plan ≡ padded room noMove (partOf found)
     rest p h = rw (held p h) (h .1)
 
     none : found .answer .outcome ≢ 0 → Holds []
-    none n = let blank = means .noPlanShown n in (blank .1, blank .2 ∙ sym (blank-buffer (query .planSize)))
+    none n = let blank = means .noPlanShown n in (blank .1, blank .2 ∙ sym (blank-buffer room))
 
     -- `PartMeaning` follows from `SearchMeaning` alone
-    pub part-meaning : PartMeaning set query found
+    pub part-meaning : PartMeaning set query room found
     part-meaning =
         record {
           cheapestHanded = λ e. let shown = means .answered (means .solved .0 e .0 .0) .cheapestShown e in rw (held (shown .0) (shown .3, shown .4)) (shown .1, shown .5);
@@ -61,11 +61,11 @@ module _ (set : RuleSet) (query : Query) where
           restBlank = byOutcome (equal? (found .answer .outcome) 0);
         }
       where
-        byOutcome : (found .answer .outcome ≡ 0) ⊎ (found .answer .outcome ≢ 0) → found .plan ≡ padded (query .planSize) noMove (partOf found)
+        byOutcome : (found .answer .outcome ≡ 0) ⊎ (found .answer .outcome ≢ 0) → found .plan ≡ padded room noMove (partOf found)
         byOutcome (inl e) = let shown = means .answered (means .solved .0 e .0 .0) .cheapestShown e in rest (shown .0) (shown .3, shown .4)
         byOutcome (inr n) = rest [] (none n)
 
   -- the part of what a search leaves, for every query: the plan's rule numbers for outcome 0, otherwise empty
-  pub part-shown : partOf (searched set query) ≡ shownPlan set query (searched set query .answer .outcome)
+  pub part-shown : partOf (searched set query room) ≡ shownPlan set query (searched set query room .answer .outcome)
   unfolding searched searchedWith
   part-shown = part-before _ _

@@ -25,11 +25,14 @@ abbrev pub partOf : Searched → List ℕ
 partOf found = planPart (found .plan) (found .answer .length)
 
 -- what it means, for every query
-pub record PartMeaning (set : RuleSet) (query : Query) (found : Searched) : Type 0 where
-  -- with outcome 0 it is a sequence that leads to the goal within both bounds, and every other one, pruned or not, costs more, or costs as much and comes later
+pub record PartMeaning (set : RuleSet) (query : Query) (room : ℕ) (found : Searched) : Type 0 where
+  -- with outcome 0 it is a sequence that leads to the goal within both bounds, and every other one, pruned or not,
+  -- costs more, or costs as much and comes later
   pub cheapestHanded : found .answer .outcome ≡ 0
-      → LeadsToGoal set query (partOf found) × ((q : Sequence) → LeadsToGoal set query q → (q ≡ partOf found) ⊎ Preferred (ruleCost set) (partOf found) q)
+      → LeadsToGoal set query (partOf found)
+      × ((q : Sequence) → LeadsToGoal set query q
+      → (q ≡ partOf found) ⊎ Preferred (ruleCost set) (partOf found) q)
   -- with any other outcome it is empty
   pub emptyHanded : found .answer .outcome ≢ 0 → partOf found ≡ []
   -- with every outcome, every other byte of the buffer is 255
-  pub restBlank : found .plan ≡ padded (query .planSize) noMove (partOf found)
+  pub restBlank : found .plan ≡ padded room noMove (partOf found)

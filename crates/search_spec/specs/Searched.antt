@@ -1,4 +1,5 @@
--- What a search answers: demand 3. Once the query is not refused, the answer speaks of all rule sequences, and of the table only through the number of unpruned ones.
+-- What a search answers: demand 3. Once the query is not refused, the answer speaks of all rule sequences, and of the
+-- table only through the number of unpruned ones. `room` is the plan buffer's length in bytes.
 use mathlib.Core.Path.{_≡_}
 use mathlib.Core.Logic.{_⊎_, _↔_, _≢_}
 use mathlib.Core.Bool.{Bool, not, cond}
@@ -16,31 +17,37 @@ use Rattle.model_spec.specs.Validity.{Valid}
 use Rattle.model_spec.specs.declared.RuleSet.{RuleSet}
 use Rattle.tables_spec.specs.Table.{tableEntries, accepted, Accepted}
 use Rattle.tables_spec.specs.Answers.{tableCauses, ReachLimits, Ready}
-use Rattle.search_spec.specs.Query.{Query, startFits, goalFits, visitedBy, plansFor, StartFits, GoalFits, RunsWithin, LeadsToGoal, Unpruned}
+use Rattle.search_spec.specs.Query.{Query, startFits, goalFits, visitedBy, plansFor}
+use Rattle.search_spec.specs.Query.{StartFits, GoalFits, RunsWithin, LeadsToGoal, Unpruned}
 use Rattle.search_spec.specs.declared.Answer.{Answer}
 
 -- the causes for which a query is refused before its table's marks are judged, in document 01's order:
 -- set, reach, table length, start, goal, more than 32 moves, plan buffer shorter than the move bound
-abbrev pub requestCauses : RuleSet → Query → List Cause
-requestCauses set query =
+abbrev pub requestCauses : RuleSet → Query → ℕ → List Cause
+requestCauses set query room =
     tableCauses set (query .reach) (length (query .table))
     ++ ((9, not (startFits set (query .start)))
     ∷ (10, not (goalFits set (query .goal)))
     ∷ (11, ltb 32 (query .maxMoves))
-    ∷ (12, ltb (query .planSize) (query .maxMoves))
+    ∷ (12, ltb room (query .maxMoves))
     ∷ [])
 
 -- the causes for which it is refused before any sequence is visited: last, that the table is not accepted
-unfoldable pub queryCauses : RuleSet → Query → List Cause
-queryCauses set query = requestCauses set query ++ ((14, not (accepted set (query .reach) (query .table))) ∷ [])
+unfoldable pub queryCauses : RuleSet → Query → ℕ → List Cause
+queryCauses set query room =
+    requestCauses set query room ++ ((14, not (accepted set (query .reach) (query .table))) ∷ [])
 
 -- of all plans the cheapest; of those that cost the same the first in document 01's order
 unfoldable pub cheapestPlan : RuleSet → Query → Option Sequence
 cheapestPlan set query = cheapest (ruleCost set) (plansFor set query)
 
 -- all causes of a search: last, more sequences to visit than the step limit; no plan
-unfoldable pub searchCauses : RuleSet → Query → List Cause
-searchCauses set query = queryCauses set query ++ ((16, ltb (query .stepLimit) (length (visitedBy set query))) ∷ (15, not (isSome (cheapestPlan set query))) ∷ [])
+unfoldable pub searchCauses : RuleSet → Query → ℕ → List Cause
+searchCauses set query room =
+    queryCauses set query room
+    ++ ((16, ltb (query .stepLimit) (length (visitedBy set query)))
+    ∷ (15, not (isSome (cheapestPlan set query)))
+    ∷ [])
 
 -- the outcomes of a query that is not refused: a plan (0), no plan (15), step limit exceeded (16, document 01: spent)
 abbrev pub isAnswer : ℕ → Bool
@@ -64,9 +71,10 @@ pub record Searched : Type 0 where
   pub answer : Answer
   pub plan : List ℕ
 
--- what a search leaves with an outcome: the cost and the length of the plan shown, the steps, and the plan's rule numbers with 255 in every other byte
-unfoldable pub searchedWith : RuleSet → Query → ℕ → Searched
-searchedWith set query outcome =
+-- what a search leaves with an outcome: the cost and the length of the plan shown, the steps, and the plan's rule
+-- numbers with 255 in every other byte
+unfoldable pub searchedWith : RuleSet → Query → ℕ → ℕ → Searched
+searchedWith set query room outcome =
     record {
       answer = record {
         outcome = outcome;
@@ -74,33 +82,40 @@ searchedWith set query outcome =
         length = length (shownPlan set query outcome);
         steps = cond (isAnswer outcome) (min (length (visitedBy set query)) (query .stepLimit)) 0;
       };
-      plan = padded (query .planSize) noMove (shownPlan set query outcome);
+      plan = padded room noMove (shownPlan set query outcome);
     }
 
 -- what a search leaves
-unfoldable pub searched : RuleSet → Query → Searched
-searched set query = searchedWith set query (firstRefusal (searchCauses set query))
+unfoldable pub searched : RuleSet → Query → ℕ → Searched
+searched set query room = searchedWith set query room (firstRefusal (searchCauses set query room))
 
 -- ── Demand 3 as statements over all rule sequences ───────────────────────────────────────────────
 
 -- the query is not refused; so its table is accepted
-abbrev pub NotRefused : RuleSet → Query → Type 0
-NotRefused set query = NoneHolds (queryCauses set query)
+abbrev pub NotRefused : RuleSet → Query → ℕ → Type 0
+NotRefused set query room = NoneHolds (queryCauses set query room)
 
 -- what then holds of its answer
-pub record Demand3 (set : RuleSet) (query : Query) (found : Searched) : Type 0 where
+pub record Demand3 (set : RuleSet) (query : Query) (room : ℕ) (found : Searched) : Type 0 where
   -- the counted sequences are the unpruned ones that can be run from the start within both bounds, each once
   pub counted : (q : Sequence) → (q ∈ visitedBy set query) ↔ (RunsWithin set query q × Unpruned set query q)
   pub once : Pairwise (λ (a b : Sequence). a ≢ b) (visitedBy set query)
   pub steps : found .answer .steps ≡ min (length (visitedBy set query)) (query .stepLimit)
   -- the limit is exceeded (document 01: spent) exactly if their number is above it
   pub limitExceeded : (found .answer .outcome ≡ 16) ↔ (query .stepLimit < length (visitedBy set query))
-  -- if it is not, no plan exactly if no rule sequence at all leads to the goal within both bounds; otherwise a plan is found
-  pub noPlan : found .answer .outcome ≢ 16 → ((found .answer .outcome ≡ 15) ↔ ((q : Sequence) → LeadsToGoal set query q → ⊥))
+  -- if it is not, no plan exactly if no rule sequence at all leads to the goal within both bounds; otherwise a plan is
+  -- found
+  pub noPlan : found .answer .outcome ≢ 16
+      → ((found .answer .outcome ≡ 15) ↔ ((q : Sequence) → LeadsToGoal set query q → ⊥))
   pub planFound : found .answer .outcome ≢ 16 → found .answer .outcome ≢ 15 → found .answer .outcome ≡ 0
-  -- the plan found is one of those sequences, its cost is the cost shown, and every other one costs more, or costs as much and comes later
+  -- the plan found is one of those sequences, its cost is the cost shown, and every other one costs more, or costs as
+  -- much and comes later
   pub cheapestShown : found .answer .outcome ≡ 0
-      → (p : Sequence) × LeadsToGoal set query p × (found .answer .cost ≡ sequenceCost set p) × (found .answer .length ≡ length p) × (found .plan ≡ padded (query .planSize) noMove p)
+      → (p : Sequence)
+      × LeadsToGoal set query p
+      × (found .answer .cost ≡ sequenceCost set p)
+      × (found .answer .length ≡ length p)
+      × (found .plan ≡ padded room noMove p)
       × ((q : Sequence) → LeadsToGoal set query q → (q ≡ p) ⊎ Preferred (ruleCost set) p q)
 
 -- ── What the answer of any query means ───────────────────────────────────────────────────────────
@@ -115,31 +130,38 @@ GoalPassed set query = StartPassed set query × GoalFits set (query .goal)
 abbrev pub MovesPassed : RuleSet → Query → Type 0
 MovesPassed set query = GoalPassed set query × (query .maxMoves ≤ 32)
 
-abbrev pub RoomPassed : RuleSet → Query → Type 0
-RoomPassed set query = MovesPassed set query × (query .maxMoves ≤ query .planSize)
+abbrev pub RoomPassed : RuleSet → Query → ℕ → Type 0
+RoomPassed set query room = MovesPassed set query × (query .maxMoves ≤ room)
 
 -- no cause of a refusal holds: all that, and the table is accepted
-abbrev pub WellPosed : RuleSet → Query → Type 0
-WellPosed set query = RoomPassed set query × Accepted set (query .reach) (query .table)
+abbrev pub WellPosed : RuleSet → Query → ℕ → Type 0
+WellPosed set query room = RoomPassed set query room × Accepted set (query .reach) (query .table)
 
 -- the same, and the sequences to visit are not more than the limit
-abbrev pub WithinLimit : RuleSet → Query → Type 0
-WithinLimit set query = WellPosed set query × (length (visitedBy set query) ≤ query .stepLimit)
+abbrev pub WithinLimit : RuleSet → Query → ℕ → Type 0
+WithinLimit set query room = WellPosed set query room × (length (visitedBy set query) ≤ query .stepLimit)
 
--- what a search tells and leaves: each number exactly if its cause holds and none before it does, 0 exactly if none holds; demand 3 for every query that is not refused; no steps for one that is;
--- and without a plan a blank plan buffer
-pub record SearchMeaning (set : RuleSet) (query : Query) (found : Searched) : Type 0 where
+-- what a search tells and leaves: each number exactly if its cause holds and none before it does, 0 exactly if none
+-- holds; demand 3 for every query that is not refused; no steps for one that is; and without a plan a blank plan buffer
+pub record SearchMeaning (set : RuleSet) (query : Query) (room : ℕ) (found : Searched) : Type 0 where
   pub notValid : (found .answer .outcome ≡ 7) ↔ (Valid set → ⊥)
   pub badReach : (found .answer .outcome ≡ 5) ↔ (Valid set × (ReachLimits (query .reach) → ⊥))
-  pub badLength : (found .answer .outcome ≡ 6) ↔ (Valid set × (ReachLimits (query .reach) × (length (query .table) ≢ 2 * tableEntries set (query .reach))))
-  pub badStart : (found .answer .outcome ≡ 9) ↔ (Ready set (query .reach) (length (query .table)) × (StartFits set (query .start) → ⊥))
+  pub badLength : (found .answer .outcome ≡ 6)
+      ↔ (Valid set × (ReachLimits (query .reach) × (length (query .table) ≢ 2 * tableEntries set (query .reach))))
+  pub badStart : (found .answer .outcome ≡ 9)
+      ↔ (Ready set (query .reach) (length (query .table)) × (StartFits set (query .start) → ⊥))
   pub badGoal : (found .answer .outcome ≡ 10) ↔ (StartPassed set query × (GoalFits set (query .goal) → ⊥))
   pub manyMoves : (found .answer .outcome ≡ 11) ↔ (GoalPassed set query × (32 < query .maxMoves))
-  pub smallBuffer : (found .answer .outcome ≡ 12) ↔ (MovesPassed set query × (query .planSize < query .maxMoves))
-  pub notAccepted : (found .answer .outcome ≡ 14) ↔ (RoomPassed set query × (Accepted set (query .reach) (query .table) → ⊥))
-  pub limited : (found .answer .outcome ≡ 16) ↔ (WellPosed set query × (query .stepLimit < length (visitedBy set query)))
-  pub unsolvable : (found .answer .outcome ≡ 15) ↔ (WithinLimit set query × ((q : Sequence) → LeadsToGoal set query q → ⊥))
-  pub solved : (found .answer .outcome ≡ 0) ↔ (WithinLimit set query × ((q : Sequence) × LeadsToGoal set query q))
-  pub answered : WellPosed set query → Demand3 set query found
-  pub noSteps : (WellPosed set query → ⊥) → found .answer .steps ≡ 0
-  pub noPlanShown : found .answer .outcome ≢ 0 → (found .answer .cost ≡ 0) × (found .answer .length ≡ 0) × (found .plan ≡ replicate (query .planSize) noMove)
+  pub smallBuffer : (found .answer .outcome ≡ 12) ↔ (MovesPassed set query × (room < query .maxMoves))
+  pub notAccepted : (found .answer .outcome ≡ 14)
+      ↔ (RoomPassed set query room × (Accepted set (query .reach) (query .table) → ⊥))
+  pub limited : (found .answer .outcome ≡ 16)
+      ↔ (WellPosed set query room × (query .stepLimit < length (visitedBy set query)))
+  pub unsolvable : (found .answer .outcome ≡ 15)
+      ↔ (WithinLimit set query room × ((q : Sequence) → LeadsToGoal set query q → ⊥))
+  pub solved : (found .answer .outcome ≡ 0)
+      ↔ (WithinLimit set query room × ((q : Sequence) × LeadsToGoal set query q))
+  pub answered : WellPosed set query room → Demand3 set query room found
+  pub noSteps : (WellPosed set query room → ⊥) → found .answer .steps ≡ 0
+  pub noPlanShown : found .answer .outcome ≢ 0
+      → (found .answer .cost ≡ 0) × (found .answer .length ≡ 0) × (found .plan ≡ replicate room noMove)

@@ -23,7 +23,8 @@ raised count by = min (count + by) top
 abbrev pub raisedIf : Bool → ℕ → ℕ
 raisedIf hit count = cond hit (raised count 1) count
 
--- the tally after a query: plans (0), no plan (15), step limit exceeded (16, document 01: spent), refused (the rest), and the sum of steps
+-- the tally after a query: plans (0), no plan (15), step limit exceeded (16, document 01: spent), refused (the rest),
+-- and the sum of steps
 unfoldable pub talliedOf : Tally → ℕ → ℕ → Tally
 talliedOf tally outcome steps =
     record {
@@ -40,9 +41,9 @@ pub record Queried : Type 0 where
   pub tally : Tally
 
 -- a search, and then the update of the caller's tally
-unfoldable pub queried : RuleSet → Query → Tally → Queried
-queried set query tally =
-    let found = searched set query in
+unfoldable pub queried : RuleSet → Query → ℕ → Tally → Queried
+queried set query room tally =
+    let found = searched set query room in
     record { found = found; tally = talliedOf tally (found .answer .outcome) (found .answer .steps) }
 
 -- ── As a statement ───────────────────────────────────────────────────────────────────────────────

@@ -1,4 +1,5 @@
-// Queries: what a search is asked and answers, the plan handed back and the tally. Types, definitions and laws; the code is in `search`, `answers`, `tally` and `tallied_search`.
+// Queries: what a search is asked and answers, the plan handed back and the tally. Types, definitions and laws; the
+// code is in `search`, `answers`, `tally` and `tallied_search`.
 
 // What a search gives beside the plan buffer.
 pub struct Answer {

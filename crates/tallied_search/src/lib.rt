@@ -8,6 +8,7 @@ ghost use mathlib.Core.Path.{_≡_};
 ghost use lib.ListN.{length};
 ghost use Rattle.search_spec.specs.Query.{asked};
 ghost use Rattle.search_spec.specs.Searched.{Searched, SearchMeaning};
+ghost use Rattle.search_spec.specs.PlanPart.{PartMeaning};
 ghost use Rattle.search_spec.specs.Tallies.{queried, TallyMeaning};
 
 // A query with a tally: a search, and then the update of the tally where the caller keeps it.
@@ -25,10 +26,12 @@ pub fn search_with_tally(
 ) -> Answer
     ensures { λ r. ⌜
         (let query = asked reach (now (table .entry)) (now (start .entry)) (now (goal .entry))
-        «max_moves» «max_cost» «step_limit» (length (now (plan .entry))) in
+        «max_moves» «max_cost» «step_limit» in
+        let room = length (now (plan .entry)) in
         let found : Searched = record { answer = r; plan = now (plan .exit) } in
-        (queried set query (now (tally .entry)) ≡ record { found = found; tally = now (tally .exit) })
-        × SearchMeaning set query found
+        (queried set query room (now (tally .entry)) ≡ record { found = found; tally = now (tally .exit) })
+        × SearchMeaning set query room found
+        × PartMeaning set query room found
         × TallyMeaning (r .outcome) (r .steps) (now (tally .entry)) (now (tally .exit))) ⌝ }
 {
     let answer = search(

@@ -23,10 +23,11 @@ pub fn search_text(
 ) -> Answer
     ensures { λ r. ⌜
         (let query = asked reach (now (table .entry)) (now (start .entry)) (now (goal .entry))
-        «max_moves» «max_cost» «step_limit» (length (now (plan .entry))) in
+        «max_moves» «max_cost» «step_limit» in
+        let room = length (now (plan .entry)) in
         let found : Searched = record { answer = r; plan = now (plan .exit) } in
-        (searchedText (now (text .entry)) query ≡ found)
-        × TextSearchMeaning (now (text .entry)) query found) ⌝ }
+        (searchedText (now (text .entry)) query room ≡ found)
+        × TextSearchMeaning (now (text .entry)) query room found) ⌝ }
 {
     let file = reader::read(text);
     let refusal = file.outcome;

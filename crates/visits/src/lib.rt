@@ -109,10 +109,9 @@ pub fn explored(
     plan_size: usize,
 ) -> Exploration
     ensures { λ r. ⌜
-        Explores set
-        (asked reach (now (table .entry)) (now (start .entry)) (now (goal .entry))
-        «max_moves» «max_cost» «step_limit» «plan_size»)
-        r ⌝ }
+        (let query = asked reach (now (table .entry)) (now (start .entry)) (now (goal .entry))
+        «max_moves» «max_cost» «step_limit» in
+        Explores set query «plan_size» r) ⌝ }
 {
     let refusal = query_refusal(set, reach, table, start, goal, max_moves, plan_size);
     let moves = [NO_MOVE; 32];

@@ -11,8 +11,7 @@ use Rattle.planner.proofs.planner_search.Tie as tie
 abbrev queryOf : tie.Start → Query
 queryOf s =
     let a = s .args in
-    let room = length (a .plan .now) in
-    asked (a .reach) (a .table .now) (a .start .now) (a .goal .now) (a .max-moves) (a .max-cost) (a .step-limit) room
+    asked (a .reach) (a .table .now) (a .start .now) (a .goal .now) (a .max-moves) (a .max-cost) (a .step-limit)
 
 search-text-requires : tie.Need-search-text-requires
 search-text-requires c κs = search needs
@@ -27,7 +26,7 @@ returns : tie.Need-returns
 returns c =
     let call = c .before .before .before in
     let s = call .before .before .before .before .before .before .before in
-    search-packed (s .args .rules .now) (queryOf s) (search needs) _ (call .search-text .ensures .0) _ (c .pack .ensures)
+    search-packed (s .args .rules .now) (queryOf s) (length (s .args .plan .now)) (search needs) _ (call .search-text .ensures .0) _ (c .pack .ensures)
 
 pub planner-search-spec : {M : Type 1} → statement M
 planner-search-spec = tie.close (tie.spec search-text-requires pack-requires same-length returns)

@@ -3,6 +3,7 @@
 use mathlib.Core.Path.{_≡_, sym, _∙_}
 use mathlib.Core.Logic.{⊎-elim, inl, inr}
 use mathlib.Core.Bool.{true}
+use Prim.Native.Nat.{ℕ}
 use lib.ListN.{length}
 use borrow.Author.Needs.{needs}
 use Rattle.model_spec.proofs.LoopLaws.{failed, passed}
@@ -15,16 +16,18 @@ use Rattle.queries.proofs.query_refusal.Tie as tie
 check-table-requires : tie.Need-check-table-requires
 check-table-requires c κs = search needs
 
--- the query that is judged; neither its cost bound nor its step limit is
-abbrev queryOf : tie.Start → Query
-queryOf s = let a = s .args in asked (a .reach) (a .table .now) (a .start .now) (a .goal .now) (a .max-moves) 0 0 (a .plan-size)
+-- the query that is judged, whatever its cost bound and its step limit are
+abbrev queryOf : tie.Start → ℕ → ℕ → Query
+queryOf s cost limit =
+    let a = s .args in
+    asked (a .reach) (a .table .now) (a .start .now) (a .goal .now) (a .max-moves) cost limit
 
 returns : tie.Need-returns
-returns c =
+returns c cost limit =
     let call = c .before .before in
     let s = call .before .before .before .before in
     let e = call .check-table .ensures .0 in
-    e ∙ shared-refusal (s .args .set) (queryOf s) (λ k. c .before .if1 .taken (e ∙ k)) (λ k. c .if2 .taken (e ∙ k))
+    e ∙ shared-refusal (s .args .set) (queryOf s cost limit) (s .args .plan-size) (λ k. c .before .if1 .taken (e ∙ k)) (λ k. c .if2 .taken (e ∙ k))
 
 -- past the first return, what is shared is judged
 abbrev startOf : tie.Joined1 → tie.Start
@@ -34,16 +37,16 @@ ready : (c : tie.Joined1) → Ready (startOf c .args .set) (startOf c .args .rea
 ready c =
     let s = startOf c in
     let e = sym (c .before .check-table .ensures .0) in
-    checked-ready (s .args .set) (queryOf s) (⊎-elim (λ w. inl (e ∙ w .1 .left)) (λ w. inr (e ∙ w .left)) (c .if1 .came))
+    checked-ready (s .args .set) (queryOf s 0 0) (⊎-elim (λ w. inl (e ∙ w .1 .left)) (λ w. inr (e ∙ w .left)) (c .if1 .came))
 
 start-fits-requires : tie.Need-start-fits-requires
 start-fits-requires c κs = ready c .0 .formed .positionLimits .1
 
 returns-2 : tie.Need-returns-2
-returns-2 c =
+returns-2 c cost limit =
     let s = startOf (c .before .before) in
     let misfit = failed (c .before .start-fits .ensures) (c .if3 .taken) in
-    start-refusal (s .args .set) (queryOf s) (ready (c .before .before)) misfit
+    start-refusal (s .args .set) (queryOf s cost limit) (s .args .plan-size) (ready (c .before .before)) misfit
 
 -- past the second, the start fits
 start-fits : (c : tie.Else3) → let s = startOf (c .before .before) in startFits (s .args .set) (s .args .start .now) ≡ true
@@ -53,37 +56,37 @@ goal-fits-requires : tie.Need-goal-fits-requires
 goal-fits-requires c κs = ready (c .before .before) .0 .formed .positionLimits .1
 
 returns-3 : tie.Need-returns-3
-returns-3 c =
+returns-3 c cost limit =
     let started = c .before .before in
     let s = startOf (started .before .before) in
     let misfit = failed (c .before .goal-fits .ensures) (c .if4 .taken) in
-    goal-refusal (s .args .set) (queryOf s) (ready (started .before .before)) (start-fits started) misfit
+    goal-refusal (s .args .set) (queryOf s cost limit) (s .args .plan-size) (ready (started .before .before)) (start-fits started) misfit
 
 -- past the third, so does the goal
 goal-fits : (c : tie.Else4) → let s = startOf (c .before .before .before .before) in goalFits (s .args .set) (s .args .goal .now) ≡ true
 goal-fits c = passed (c .before .goal-fits .ensures) (c .if4 .left)
 
 returns-4 : tie.Need-returns-4
-returns-4 c =
+returns-4 c cost limit =
     let started = c .before .before .before in
     let s = startOf (started .before .before) in
-    moves-refusal (s .args .set) (queryOf s) (ready (started .before .before)) (start-fits started) (goal-fits (c .before)) (c .if5 .taken)
+    moves-refusal (s .args .set) (queryOf s cost limit) (s .args .plan-size) (ready (started .before .before)) (start-fits started) (goal-fits (c .before)) (c .if5 .taken)
 
 returns-5 : tie.Need-returns-5
-returns-5 c =
+returns-5 c cost limit =
     let aimed = c .before .before in
     let started = aimed .before .before in
     let s = startOf (started .before .before) in
-    room-refusal (s .args .set) (queryOf s) (ready (started .before .before)) (start-fits started) (goal-fits aimed) (c .before .if5 .left) (c .if6 .taken)
+    room-refusal (s .args .set) (queryOf s cost limit) (s .args .plan-size) (ready (started .before .before)) (start-fits started) (goal-fits aimed) (c .before .if5 .left) (c .if6 .taken)
 
 returns-6 : tie.Need-returns-6
-returns-6 c =
+returns-6 c cost limit =
     let aimed = c .before .before in
     let started = aimed .before .before in
     let judged = started .before .before in
     let s = startOf judged in
     judged .before .check-table .ensures .0
-    ∙ last-refusal (s .args .set) (queryOf s) (ready judged) (start-fits started) (goal-fits aimed) (c .before .if5 .left) (c .if6 .left)
+    ∙ last-refusal (s .args .set) (queryOf s cost limit) (s .args .plan-size) (ready judged) (start-fits started) (goal-fits aimed) (c .before .if5 .left) (c .if6 .left)
 
 pub query-refusal-spec : {M : Type 1} → statement M
 query-refusal-spec =

@@ -2,7 +2,7 @@
 -- Assumes nothing.
 use mathlib.Core.Path.{_≡_, refl, sym, ap, _∙_, subst}
 use mathlib.Core.Bool.{true}
-use Prim.Native.Nat.{_≤_}
+use Prim.Native.Nat.{ℕ, _≤_}
 use lib.ListN.{length, replicate, length-replicate}
 use borrow.Author.Needs.{needs}
 use borrow.Author.Tests.{not-true, not-false}
@@ -27,29 +27,31 @@ explored-requires c κs = search needs
 abbrev queryOf : tie.Start → Query
 queryOf s =
     let a = s .args in
-    asked (a .reach) (a .table .now) (a .start .now) (a .goal .now) (a .max-moves) (a .max-cost) (a .step-limit) (length (a .plan .now))
+    asked (a .reach) (a .table .now) (a .start .now) (a .goal .now) (a .max-moves) (a .max-cost) (a .step-limit)
+
+-- the room for its plan
+abbrev roomOf : tie.Start → ℕ
+roomOf s = length (s .args .plan .now)
 
 abbrev startOf : tie.After-explored → tie.Start
 startOf c = c .before .before .before .before .before .before .before .before .before
 
 -- the buffer is blank
 blank : (c : tie.After-explored)
-    → c .before .before .before .fill-from .last .0 ≡ replicate (length (startOf c .args .plan .now)) noMove
+    → c .before .before .before .fill-from .last .0 ≡ replicate (roomOf (startOf c)) noMove
 blank c = c .before .before .before .fill-from .ensures ∙ filled-whole noMove (startOf c .args .plan .now)
 
 -- of the length that it had
 sized : (c : tie.After-explored)
-    → length (c .before .before .before .fill-from .last .0) ≡ length (startOf c .args .plan .now)
-sized c = ap length (blank c) ∙ length-replicate (length (startOf c .args .plan .now)) noMove
+    → length (c .before .before .before .fill-from .last .0) ≡ roomOf (startOf c)
+sized c = ap length (blank c) ∙ length-replicate (roomOf (startOf c)) noMove
 
 -- and the query is judged, and explored
-explores : (c : tie.After-explored) → Explores (startOf c .args .set) (queryOf (startOf c)) (c .explored .result)
+explores : (c : tie.After-explored)
+    → let s = startOf c in Explores (s .args .set) (queryOf s) (roomOf s) (c .explored .result)
 explores c =
-    let a = startOf c .args in
-    subst (λ n. Explores (a .set)
-    (asked (a .reach) (a .table .now) (a .start .now) (a .goal .now) (a .max-moves) (a .max-cost) (a .step-limit) n)
-    (c .explored .result)) (sized c)
-    (c .explored .ensures)
+    let s = startOf c in
+    subst (λ room. Explores (s .args .set) (queryOf s) room (c .explored .result)) (sized c) (c .explored .ensures)
 
 without-plan-requires : tie.Need-without-plan-requires
 without-plan-requires c κs = search needs
@@ -62,18 +64,18 @@ returns c =
     let judged = c .before .before .before in
     let s = startOf judged in
     let e = explores judged .refused in
-    let refused = searched-refused (s .args .set) (queryOf s) (λ k. c .before .if1 .taken (e ∙ k)) in
-    answers (s .args .set) (queryOf s) _ _
-    (withoutPlan (s .args .set) (queryOf s) (judged .explored .result .refusal) 0) (c .without-plan .ensures)
+    let refused = searched-refused (s .args .set) (queryOf s) (roomOf s) (λ k. c .before .if1 .taken (e ∙ k)) in
+    answers (s .args .set) (queryOf s) (roomOf s) _ _
+    (withoutPlan (roomOf s) (judged .explored .result .refusal) 0) (c .without-plan .ensures)
     (blank judged)
-    (ap (λ n. withoutPlan (s .args .set) (queryOf s) n 0) e ∙ sym refused)
+    (ap (λ n. withoutPlan (roomOf s) n 0) e ∙ sym refused)
 
 -- past the first return, the query is not refused
 abbrev judgedAt : tie.Else1 → tie.After-explored
 judgedAt c = c .before .before
 
 unrefused : (c : tie.Else1)
-    → firstRefusal (queryCauses (startOf (judgedAt c) .args .set) (queryOf (startOf (judgedAt c)))) ≡ 0
+    → let s = startOf (judgedAt c) in firstRefusal (queryCauses (s .args .set) (queryOf s) (roomOf s)) ≡ 0
 unrefused c = sym (explores (judgedAt c) .refused) ∙ c .if1 .left
 
 visited : (c : tie.Else1)
@@ -91,9 +93,9 @@ returns-2 c =
     let posed = c .before .before .before in
     let judged = judgedAt posed in
     let s = startOf judged in
-    let found = explored-limited (s .args .set) (queryOf s) (unrefused posed) (judged .explored .result .progress)
+    let found = explored-limited (s .args .set) (queryOf s) (roomOf s) (unrefused posed) (judged .explored .result .progress)
     (visited posed) (c .before .if2 .taken) in
-    answers (s .args .set) (queryOf s) _ _ _ (c .without-plan2 .ensures) (blank judged) found
+    answers (s .args .set) (queryOf s) (roomOf s) _ _ _ (c .without-plan2 .ensures) (blank judged) found
 
 without-plan-requires-3 : tie.Need-without-plan-requires-3
 without-plan-requires-3 c κs = search needs
@@ -109,9 +111,9 @@ returns-3 c =
     let s = startOf judged in
     let progress = judged .explored .result .progress in
     let none = not-true (progress .best .found) (c .before .if3 .taken) in
-    let found = explored-unsolvable (s .args .set) (queryOf s) (unrefused posed) progress (visited posed)
+    let found = explored-unsolvable (s .args .set) (queryOf s) (roomOf s) (unrefused posed) progress (visited posed)
     (under .if2 .left) none in
-    answers (s .args .set) (queryOf s) _ _ _ (c .without-plan3 .ensures) (blank judged) found
+    answers (s .args .set) (queryOf s) (roomOf s) _ _ _ (c .without-plan3 .ensures) (blank judged) found
 
 -- past the third, a plan is found
 abbrev underAt : tie.Else3 → tie.Else2
@@ -128,7 +130,7 @@ put-moves-requires c κs =
     let judged = judgedAt posed in
     let s = startOf judged in
     let progress = judged .explored .result .progress in
-    let room = explored-room (s .args .set) (queryOf s) (unrefused posed) progress (visited posed) (under .if2 .left)
+    let room = explored-room (s .args .set) (queryOf s) (roomOf s) (unrefused posed) progress (visited posed) (under .if2 .left)
     (plan-found solved) in
     (room .0, subst (λ n. progress .best .length ≤ n) (sym (sized judged)) (room .1))
 
@@ -145,9 +147,9 @@ returns-4 c =
     let s = startOf judged in
     let progress = judged .explored .result .progress in
     let buffer = judged .before .before .before .fill-from .last .0 in
-    let found = explored-solved (s .args .set) (queryOf s) (unrefused posed) progress (visited posed) (under .if2 .left)
+    let found = explored-solved (s .args .set) (queryOf s) (roomOf s) (unrefused posed) progress (visited posed) (under .if2 .left)
     (plan-found solved) buffer (blank judged) in
-    answers (s .args .set) (queryOf s) _ _ (leftWith (progress .best) (progress .steps) buffer) refl (put .put-moves .ensures) found
+    answers (s .args .set) (queryOf s) (roomOf s) _ _ (leftWith (progress .best) (progress .steps) buffer) refl (put .put-moves .ensures) found
 
 pub search-spec : {M : Type 1} → statement M
 search-spec =

@@ -133,7 +133,7 @@ pub record Explored (set : RuleSet) (query : Query) (progress : Progress) : Type
 
 -- what a query comes to: the first cause for which it is refused, if one holds; if none does, the progress of the whole
 -- search, else none
-pub record Explores (set : RuleSet) (query : Query) (exploration : Exploration) : Type 0 where
-  pub refused : exploration .refusal ≡ firstRefusal (queryCauses set query)
+pub record Explores (set : RuleSet) (query : Query) (room : ℕ) (exploration : Exploration) : Type 0 where
+  pub refused : exploration .refusal ≡ firstRefusal (queryCauses set query room)
   pub explored : exploration .refusal ≡ 0 → Explored set query (exploration .progress)
   pub blank : exploration .refusal ≢ 0 → exploration .progress ≡ noProgress

@@ -45,6 +45,7 @@ use Rattle.model_spec.proofs.RuleSet as R
 use Rattle.model_spec.proofs.RuleSet.Laws as R′
 use Rattle.search_spec.specs.Query.{Query, asked}
 use Rattle.search_spec.specs.Searched.{Searched, searched, SearchMeaning}
+use Rattle.search_spec.specs.PlanPart.{PartMeaning}
 use Rattle.search_spec.specs.Tallies.{talliedOf, queried, TallyMeaning}
 use Rattle.search_spec.specs.declared.Answer.{Answer}
 use Rattle.search_spec.specs.declared.Tally.{Tally}
@@ -70,20 +71,27 @@ stayed =
     (stay-dropped (plain (λ _. R.the-row)) yes, (stay-dropped (plain (λ _. usize)) yes, (stay-dropped (shrSliceOf (0 ∷ []) tt (plain (λ _. u8))) yes, (stay-dropped (shrSliceOf (1 ∷ []) tt (plain (λ _. u8))) yes, (stay-dropped (shrSliceOf (2 ∷ []) tt (plain (λ _. u8))) yes, (stay-dropped (plain (λ _. usize)) yes, (stay-dropped (plain (λ _. u16)) yes, (stay-dropped (plain (λ _. u32)) yes, (gave-slice (3 ∷ []) tt (plain (λ _. u8)), (gave-ref (4 ∷ []) tt (plain (λ _. T.the-row)), tt))))))))))
 
 -- what `search` says of its answer and of the plan buffer that it leaves
-abbrev Answered : RuleSet → Query → Searched → Type 0
-Answered set query found = (searched set query ≡ found) × SearchMeaning set query found
+abbrev Answered : RuleSet → Query → ℕ → Searched → Type 0
+Answered set query room found =
+    (searched set query room ≡ found) × SearchMeaning set query room found × PartMeaning set query room found
 
 -- what `update` says of the tally that it leaves
 abbrev Updated : Tally → Answer → Tally → Type 0
 Updated before r after = (after ≡ talliedOf before (r .outcome) (r .steps)) × TallyMeaning (r .outcome) (r .steps) before after
 
 -- the two together
-both : (set : RuleSet) (query : Query) (before after : Tally) (r : Answer) (plan : List ℕ) → Answered set query (record { answer = r; plan = plan }) → Updated before r after
-    → (queried set query before ≡ record { found = record { answer = r; plan = plan }; tally = after }) × SearchMeaning set query (record { answer = r; plan = plan }) × TallyMeaning (r .outcome) (r .steps) before after
+both : (set : RuleSet) (query : Query) (room : ℕ) (before after : Tally) (r : Answer) (plan : List ℕ)
+    → (let found : Searched = record { answer = r; plan = plan } in
+    Answered set query room found
+    → Updated before r after
+    → (queried set query room before ≡ record { found = found; tally = after })
+    × SearchMeaning set query room found
+    × PartMeaning set query room found
+    × TallyMeaning (r .outcome) (r .steps) before after)
 unfolding queried
-both set query before after r plan e d =
+both set query room before after r plan e d =
     let counted = ap (λ (found : Searched). talliedOf before (found .answer .outcome) (found .answer .steps)) (e .0) ∙ sym (d .0) in
-    ((λ i. record { found = e .0 i; tally = counted i }), e .1, d .1)
+    ((λ i. record { found = e .0 i; tally = counted i }), e .1, e .2, d .1)
 
 module _ {M : Type 1} (𝓤 : URA M) (H : Heap 𝓤) (A : Atoms 𝓤) (at-mem : Memory → SProp 𝓤) (run : Routine → Fun 𝓤) where
   -- the contracts that the proof cites
@@ -142,7 +150,11 @@ module _ {M : Type 1} (𝓤 : URA M) (H : Heap 𝓤) (A : Atoms 𝓤) (W : Given
   tally-own = MutRef (named 4) κ₄ T.the-row .own tally (tally-val ∷ [])
 
   abbrev query : Query
-  query = asked reach (table .now) (start .now) (goal .now) moves cost limit (length (plan .now))
+  query = asked reach (table .now) (start .now) (goal .now) moves cost limit
+
+  -- the room for its plan
+  abbrev room : ℕ
+  room = length (plan .now)
 
   abbrev Post : Val → SProp 𝓤
   Post = walkOf 𝓤 H A f.ended stayed (f.clauses 𝓤 H A at-mem run) .post ((lfts, shares, tt, x, at), tt)
@@ -196,12 +208,12 @@ module _ {M : Type 1} (𝓤 : URA M) (H : Heap 𝓤) (A : Atoms 𝓤) (W : Given
       move ! (2 ∷ 0 ∷ []) $ fjoin ! $ nothing ! $ move ! (2 ∷ 0 ∷ []) $ join ! $ join ! $ frame ! $ done !
 
   -- ---- the exit
-  exits : (r : Answer) (zs : List ℕ) (after : Tally) → Is N.the-row r (answer-val r ∷ []) → length zs ≡ length (plan .now) → Answered set query (record { answer = r; plan = zs }) → Updated (tally .now) r after
+  exits : (r : Answer) (zs : List ℕ) (after : Tally) → Is N.the-row r (answer-val r ∷ []) → length zs ≡ length (plan .now) → Answered set query room (record { answer = r; plan = zs }) → Updated (tally .now) r after
       → ent 𝓤 (⋆ 𝓤 H A (tokens ∷ ‵ (flft κ₄ q₄) ∷ ‵ (finally u8 (plan .name) zs) ∷ ‵ (fres (tally .name) (T.the-row .coded .code after)) ∷ [])) (Post (answer-val r))
   exits r zs after is l e d =
       qed W (tokens ∷ ‵ (flft κ₄ q₄) ∷ ‵ (finally u8 (plan .name) zs) ∷ ‵ (fres (tally .name) (T.the-row .coded .code after)) ∷ []) ∵
       suffices ! _ (ends-at 𝓤 H A f.ended stayed (f.clauses 𝓤 H A at-mem run) W ((lfts, shares, tt, x, at), tt) (answer-val r) r
-      (tt, (tt, (tt, (tt, (tt, (tt, (tt, (tt, (zs, (after, tt)))))))))) (tt, (tt, (tt, (tt, (tt, (tt, (tt, (tt, (l, (tt, tt))))))))))) $ says ! (both set query (tally .now) after r zs e d) $
+      (tt, (tt, (tt, (tt, (tt, (tt, (tt, (tt, (zs, (after, tt)))))))))) (tt, (tt, (tt, (tt, (tt, (tt, (tt, (tt, (l, (tt, tt))))))))))) $ says ! (both set query room (tally .now) after r zs e d) $
       split ! $ move ! (1 ∷ []) $ split ! $ move ! (1 ∷ []) $ split ! $ move ! (1 ∷ []) $ split ! $
       -- [the last of the four tokens; true; the others, last first; the token of the tally's lifetime; the plan's last list; the tally's last value]
       move ! (5 ∷ 1 ∷ []) $ join ! $ move ! (1 ∷ 0 ∷ []) $ join ! $ move ! (1 ∷ 0 ∷ []) $ join ! $ move ! (1 ∷ 0 ∷ []) $ join ! $ move ! (1 ∷ 0 ∷ []) $ join ! $ frame ! $
@@ -227,8 +239,8 @@ module _ {M : Type 1} (𝓤 : URA M) (H : Heap 𝓤) (A : Atoms 𝓤) (W : Given
         move ! (32 ∷ []) $ use1 W (raw (Search 𝓤 H A at-mem run .pre to-search) ⊛ (‵ (flft κ₄ q₄) ⊛ ‵ tally-own)) apart $ split ! $
         calls-at ! fm (Search 𝓤 H A at-mem run) known-search to-search (and-then ! (load ! (from ! (stop !)) (look ! 30 refl)) (and-then ! (load ! (from ! (stop !)) (look ! 28 refl)) (and-then ! (load ! (from ! (stop !)) (look ! 26 refl)) (and-then ! (load ! (from ! (stop !)) (look ! 24 refl)) (and-then ! (load ! (from ! (stop !)) (look ! 22 refl)) (and-then ! (load ! (from ! (stop !)) (look ! 20 refl)) (and-then ! (load ! (from ! (stop !)) (look ! 18 refl)) (and-then ! (load ! (from ! (stop !)) (look ! 16 refl)) (and-then ! (load ! (from ! (stop !)) (look ! 6 refl)) (no-more !)))))))))) (λ v.
         use1 W (later (some (λ (r : Answer). (tokens ⊛ ‵ (N.the-row .own r (v ∷ []))) ⊛ raw (ensured 𝓤 H A g.ended (g.clauses 𝓤 H A at-mem run) search-lfts search-args tt r)))) (id⊢ 𝓤 _) $ await ! tt $ pick ! (λ r.
-        split ! $ move ! (1 ∷ []) $ use1 W (some (λ (zs : Lasts g.ended search-lfts search-args). ‵ (lasts g.ended search-lfts search-args zs) ⊛ raw (fact 𝓤 (Answered set query (record { answer = r; plan = last-plan zs }))))) (id⊢ 𝓤 _) $ pick ! (λ zs.
-        split ! $ move ! (1 ∷ []) $ heard ! (Answered set query (record { answer = r; plan = last-plan zs })) (λ e. fsplit ! $ drop ! $ fsplit ! $ drop ! $ fsplit ! $ drop ! $ fsplit ! $ drop ! $ fsplit ! $ drop ! $ fsplit ! $ drop ! $ fsplit ! $ drop ! $ fsplit ! $ drop ! $ fsplit ! $ fsplit ! $ move ! (1 ∷ []) $ feqL ! (λ l.
+        split ! $ move ! (1 ∷ []) $ use1 W (some (λ (zs : Lasts g.ended search-lfts search-args). ‵ (lasts g.ended search-lfts search-args zs) ⊛ raw (fact 𝓤 (Answered set query room (record { answer = r; plan = last-plan zs }))))) (id⊢ 𝓤 _) $ pick ! (λ zs.
+        split ! $ move ! (1 ∷ []) $ heard ! (Answered set query room (record { answer = r; plan = last-plan zs })) (λ e. fsplit ! $ drop ! $ fsplit ! $ drop ! $ fsplit ! $ drop ! $ fsplit ! $ drop ! $ fsplit ! $ drop ! $ fsplit ! $ drop ! $ fsplit ! $ drop ! $ fsplit ! $ drop ! $ fsplit ! $ fsplit ! $ move ! (1 ∷ []) $ feqL ! (λ l.
         -- [the plan's last list; true; the tokens and the answer; the tally and its token; room for _15; …]
         move ! (2 ∷ []) $ split ! $ move ! (1 ∷ []) $ peeks ! N.the-row (Is N.the-row) (shows 𝓤 H A N.the-row) r (v ∷ []) (λ is. drop ! $
         -- [the tokens; the plan's last list; true; the tally and its token; room for _15; …; room for _14; …; _13; …; _12; …; room for _11; …; _10; …]

@@ -20,19 +20,23 @@ use Rattle.text_search.proofs.search_text.Tie as tie
 abbrev queryOf : tie.Start → Query
 queryOf s =
     let a = s .args in
-    asked (a .reach) (a .table .now) (a .start .now) (a .goal .now) (a .max-moves) (a .max-cost) (a .step-limit) (length (a .plan .now))
+    asked (a .reach) (a .table .now) (a .start .now) (a .goal .now) (a .max-moves) (a .max-cost) (a .step-limit)
+
+-- the room for its plan
+abbrev roomOf : tie.Start → ℕ
+roomOf s = length (s .args .plan .now)
 
 -- by what the reader gave
-module _ (text : List ℕ) (query : Query) (file : Reading) (e : file ≡ reading text) where
-  refused : file .outcome ≢ 0 → (plan : List ℕ) → plan ≡ replicate (query .planSize) noMove
-      → searchedText text query ≡ record { answer = record { outcome = file .outcome; cost = 0; length = 0; steps = 0 }; plan = plan }
+module _ (text : List ℕ) (query : Query) (room : ℕ) (file : Reading) (e : file ≡ reading text) where
+  refused : file .outcome ≢ 0 → (plan : List ℕ) → plan ≡ replicate room noMove
+      → searchedText text query room ≡ record { answer = record { outcome = file .outcome; cost = 0; length = 0; steps = 0 }; plan = plan }
   unfolding textRefused
   refused n plan p =
       let o = ap (λ (f : Reading). f .outcome) e in
-      refused-text text query (λ z. n (o ∙ z)) ∙ (λ i. record { answer = record { outcome = sym o i; cost = 0; length = 0; steps = 0 }; plan = sym p i })
+      refused-text text query room (λ z. n (o ∙ z)) ∙ (λ i. record { answer = record { outcome = sym o i; cost = 0; length = 0; steps = 0 }; plan = sym p i })
 
-  read : file .outcome ≡ 0 → (found : Searched) → searched (file .set) query ≡ found → searchedText text query ≡ found
-  read z found f = read-text text query (sym (ap (λ (f : Reading). f .outcome) e) ∙ z) ∙ ap (λ (f : Reading). searched (f .set) query) (sym e) ∙ f
+  read : file .outcome ≡ 0 → (found : Searched) → searched (file .set) query room ≡ found → searchedText text query room ≡ found
+  read z found f = read-text text query room (sym (ap (λ (f : Reading). f .outcome) e) ∙ z) ∙ ap (λ (f : Reading). searched (f .set) query room) (sym e) ∙ f
 
 read-requires : tie.Need-read-requires
 read-requires c κs = search needs
@@ -48,8 +52,8 @@ returns c =
     let file = c .before .before .before .before .before in
     let s = file .before .before .before .before .before .before in
     let blank = c .before .before .fill-from .ensures ∙ filled-whole noMove (s .args .plan .now) in
-    text-found (s .args .text .now) (queryOf s) _
-    (refused (s .args .text .now) (queryOf s) (file .read .result) (file .read .ensures .0) (c .before .before .before .before .if1 .taken) _ blank)
+    text-found (s .args .text .now) (queryOf s) (roomOf s) _
+    (refused (s .args .text .now) (queryOf s) (roomOf s) (file .read .result) (file .read .ensures .0) (c .before .before .before .before .if1 .taken) _ blank)
 
 search-requires : tie.Need-search-requires
 search-requires c κs = search needs
@@ -61,8 +65,8 @@ returns-2 : tie.Need-returns-2
 returns-2 c =
     let s = c .before .before .before .before .before .before .before .before .before .before .before in
     let file = c .before .before .before .before .before in
-    text-found (s .args .text .now) (queryOf s) _
-    (read (s .args .text .now) (queryOf s) (file .read .result) (file .read .ensures .0) (c .before .before .before .before .if1 .left) _ (c .before .before .search .ensures .0))
+    text-found (s .args .text .now) (queryOf s) (roomOf s) _
+    (read (s .args .text .now) (queryOf s) (roomOf s) (file .read .result) (file .read .ensures .0) (c .before .before .before .before .if1 .left) _ (c .before .before .search .ensures .0))
 
 pub search-text-spec : {M : Type 1} → statement M
 search-text-spec = tie.close (tie.spec read-requires fill-from-requires same-length returns search-requires same-length-2 returns-2)

@@ -7,7 +7,7 @@ use Rattle.model_spec.specs.Refusals.{firstRefusal}
 use Rattle.search_spec.specs.Query.{Query, asked}
 use Rattle.search_spec.specs.Searched.{queryCauses, NotRefused}
 use Rattle.search_laws.specs.how.Visits.{noBest, noProgress}
-use Rattle.search_laws.proofs.ExploredLaws.{explored-whole, same-refusal, unrefused}
+use Rattle.search_laws.proofs.ExploredLaws.{explored-whole, unrefused}
 use Rattle.search_laws.proofs.LentLaws.{lent-whole, reached-first}
 use Rattle.visits.proofs.explored.Statement.{statement}
 use Rattle.visits.proofs.explored.Tie as tie
@@ -23,21 +23,21 @@ abbrev queryOf : tie.Start → Query
 queryOf s =
     let a = s .args in
     asked (a .reach) (a .table .now) (a .start .now) (a .goal .now) (a .max-moves) (a .max-cost) (a .step-limit)
-    (a .plan-size)
 
 -- it is judged
-refusal : (c : tie.After-query-refusal) → c .query-refusal .result ≡ firstRefusal (queryCauses (startOf c .args .set) (queryOf (startOf c)))
-refusal c =
-    same-refusal (startOf c .args .set) (queryOf (startOf c)) (c .query-refusal .result) (c .query-refusal .ensures)
+refusal : (c : tie.After-query-refusal) → c .query-refusal .result ≡ firstRefusal (queryCauses (startOf c .args .set) (queryOf (startOf c)) (startOf c .args .plan-size))
+refusal c = c .query-refusal .ensures (startOf c .args .max-cost) (startOf c .args .step-limit)
 
 returns : tie.Need-returns
 unfolding noBest noProgress
 returns c = record { refused = refusal (c .before); explored = λ e. absurd (c .if1 .taken e); blank = λ _. refl }
 
 -- past the first return, it is not refused
-judged : (c : tie.Else1) → NotRefused (startOf (c .before) .args .set) (queryOf (startOf (c .before)))
+judged : (c : tie.Else1)
+    → let s = startOf (c .before) in NotRefused (s .args .set) (queryOf s) (s .args .plan-size)
 judged c =
-    let s = startOf (c .before) in unrefused (s .args .set) (queryOf s) (sym (refusal (c .before)) ∙ c .if1 .left)
+    let s = startOf (c .before) in
+    unrefused (s .args .set) (queryOf s) (s .args .plan-size) (sym (refusal (c .before)) ∙ c .if1 .left)
 
 conditions-of-requires : tie.Need-conditions-of-requires
 conditions-of-requires c κs = search needs
@@ -73,9 +73,9 @@ visit-from-requires c κs =
     let lent = lentAt placed in
     let posed = posedAt placed in
     let s = startOf (posed .before) in (
-      lent-whole (s .args .set) (queryOf s) (judged posed) _ _ (lent .before .before .conditions-of .ensures)
+      lent-whole (s .args .set) (queryOf s) (s .args .plan-size) (judged posed) _ _ (lent .before .before .conditions-of .ensures)
           (lent .before .effects-of .ensures),
-      reached-first (s .args .set) (queryOf s) (judged posed) _ _ (placed .start-state .ensures),
+      reached-first (s .args .set) (queryOf s) (s .args .plan-size) (judged posed) _ _ (placed .start-state .ensures),
     )
 
 returns-2 : tie.Need-returns-2
@@ -88,7 +88,7 @@ returns-2 c =
     record {
       refused = sym (posed .if1 .left) ∙ refusal (posed .before);
       explored = λ _.
-          explored-whole (s .args .set) (queryOf s) (judged posed) _
+          explored-whole (s .args .set) (queryOf s) (s .args .plan-size) (judged posed) _
           (placed .before .before .before .lookup-of .ensures) _ _ _ _ _ _
           (lent .before .before .conditions-of .ensures) (lent .before .effects-of .ensures) (lent .costs-of .ensures)
           (placed .start-state .ensures) refl (c .visit-from .ensures);
