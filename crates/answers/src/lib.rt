@@ -3,14 +3,14 @@ ghost use mathlib.Core.Path.{_≡_};
 ghost use Rattle.search_spec.specs.PlanPart.{planPart};
 
 // The plan handed back (document 01: the second call): the front part of the caller's own plan buffer, from its start;
-// an empty one where the length is above the buffer's.
-pub fn plan_part(plan: &[u8], length: usize) -> &[u8]
+// an empty one where the count is above the buffer's.
+pub fn plan_part(plan: &[u8], count: usize) -> &[u8]
     ensures { λ r. ⌜
-        (now r ≡ planPart (now (plan .entry)) length)
+        (now r ≡ planPart (now (plan .entry)) count)
         × (r .ptr ≡ plan .entry .ptr) ⌝ }
 {
-    if length <= plan.len() {
-        return &plan[..length];
+    if count <= plan.len() {
+        return &plan[..count];
     }
     &plan[..0]
 }
