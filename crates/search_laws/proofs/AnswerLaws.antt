@@ -24,10 +24,11 @@ use Rattle.search_spec.proofs.Demand.{cheapest-leads}
 use Rattle.search_spec.proofs.MeaningLaws.{unrefused-iff, search-meaning}
 use Rattle.search_spec.proofs.PlanPartLaws.{part-meaning}
 use Rattle.search_spec.proofs.OutcomeLaws.{withoutPlan, searched-limited, searched-unsolvable, searched-solved}
-use Rattle.search_laws.specs.how.Visits.{bestOf, noBest, asBest, Explored}
+use Rattle.search_laws.specs.how.Visits.{bestOf, noBest, asBest, wholeProgress}
 use Rattle.model_spec.proofs.CopyLaws.{copied-padded}
 use Rattle.search_laws.specs.declared.Best.{Best}
 use Rattle.search_laws.specs.declared.Progress.{Progress}
+use Rattle.search_laws.proofs.ExploredLaws.{whole-best, unrefused}
 
 -- ── The plan buffer ──────────────────────────────────────────────────────────────────────────────
 
@@ -59,7 +60,7 @@ module _ (set : RuleSet) (query : Query) (room : ℕ) where
       (whole, means, part-meaning set query room left means)
 
   module _ (h : firstRefusal (queryCauses set query room) ≡ 0) where
-    module _ (progress : Progress) (explored : Explored set query progress) where
+    module _ (progress : Progress) (explored : progress ≡ wholeProgress set query) where
       abbrev best : Best
       best = progress .best
 
@@ -67,17 +68,21 @@ module _ (set : RuleSet) (query : Query) (room : ℕ) where
       count = length (visitedBy set query)
 
       steps-are : progress .steps ≡ min count (query .stepLimit)
-      steps-are = explored .steps
+      unfolding wholeProgress
+      steps-are = ap (λ (p : Progress). p .steps) explored
 
       exceeded-is : progress .exceeded ≡ ltb (query .stepLimit) count
-      exceeded-is = explored .exceeded
+      unfolding wholeProgress
+      exceeded-is = ap (λ (p : Progress). p .exceeded) explored
 
       pub explored-limited : progress .exceeded ≡ true → withoutPlan room 16 (progress .steps) ≡ searched set query room
       explored-limited e = ap (withoutPlan room 16) steps-are ∙ sym (searched-limited set query room h (sym exceeded-is ∙ e))
 
       module _ (under : progress .exceeded ≡ false) where
         best-is : best ≡ asBest (sequenceCost set) (cheapestPlan set query)
-        best-is = explored .best (ltb-false (query .stepLimit) count (sym exceeded-is ∙ under))
+        best-is =
+            let all = ltb-false (query .stepLimit) count (sym exceeded-is ∙ under) in
+            ap (λ (p : Progress). p .best) explored ∙ whole-best set query room (unrefused set query room h) all
 
         -- a plan is found exactly if there is a cheapest one
         none-found : best .found ≡ false → cheapestPlan set query ≡ none

@@ -108,13 +108,20 @@ module _ (cost : ℕ → ℕ) (limit : ℕ) where
 
     -- the same from the beginning
     pub fold-progress : (l : List Sequence)
-        → (foldOver noteOf noProgress l .steps ≡ min (length l) limit)
-        × (foldOver noteOf noProgress l .exceeded ≡ ltb limit (length l))
-        × (foldOver noteOf noProgress l .best ≡ asBest (costOf cost) (best cost good none (take limit l)))
-        × (foldOver noteOf noProgress l .floor ≡ leastCost cost 65535 (drop limit l))
+        → foldOver noteOf noProgress l
+        ≡ record {
+          steps = min (length l) limit;
+          exceeded = ltb limit (length l);
+          best = asBest (costOf cost) (best cost good none (take limit l));
+          floor = leastCost cost 65535 (drop limit l);
+        }
     unfolding noProgress asBest
     fold-progress l =
         let w = fold-counts l 0 none 65535 (omega arith) in
         let s = zero-add (length l) in
         let d : limit - 0 ≡ limit = omega arith in
-        (w .0 ∙ ap (λ n. min n limit) s, w .1 ∙ ap (ltb limit) s, w .2 ∙ ap (λ n. asBest (costOf cost) (best cost good none (take n l))) d, w .3 ∙ ap (λ n. leastCost cost 65535 (drop n l)) d)
+        let steps = w .0 ∙ ap (λ n. min n limit) s in
+        let exceeded = w .1 ∙ ap (ltb limit) s in
+        let taken = w .2 ∙ ap (λ n. asBest (costOf cost) (best cost good none (take n l))) d in
+        let floor = w .3 ∙ ap (λ n. leastCost cost 65535 (drop n l)) d in
+        λ i. record { steps = steps i; exceeded = exceeded i; best = taken i; floor = floor i }

@@ -20,7 +20,7 @@ use search_states::start_state;
 ghost use mathlib.Core.Path.{_≡_};
 ghost use lib.ListN.{take};
 ghost use Rattle.search_spec.specs.Query.{asked};
-ghost use Rattle.search_laws.specs.how.Visits.{Lent, Reached, visitsFrom, Explores};
+ghost use Rattle.search_laws.specs.how.Visits.{Lent, Reached, visitsFrom, exploration};
 
 // The floor while no sequence beyond the limit is met: no cost is larger.
 const NO_FLOOR: u16 = 65535;
@@ -111,7 +111,7 @@ pub fn explored(
     ensures { λ r. ⌜
         (let query = asked reach (now (table .entry)) (now (start .entry)) (now (goal .entry))
         «max_moves» «max_cost» «step_limit» in
-        Explores set query «plan_size» r) ⌝ }
+        r ≡ exploration set query «plan_size») ⌝ }
 {
     let refusal = query_refusal(set, reach, table, start, goal, max_moves, plan_size);
     let moves = [NO_MOVE; 32];

@@ -7,15 +7,53 @@ use lib.ListN.{length, replicate, length-replicate}
 use borrow.Author.Needs.{needs}
 use borrow.Author.Tests.{not-true, not-false}
 use Rattle.model_spec.specs.Refusals.{firstRefusal}
+use Rattle.model_spec.specs.declared.RuleSet.{RuleSet}
 use Rattle.model_spec.proofs.BufferLaws.{filled-whole}
 use Rattle.search_spec.specs.Query.{Query, asked}
 use Rattle.search_spec.specs.Searched.{queryCauses, noMove}
 use Rattle.search_spec.proofs.OutcomeLaws.{withoutPlan, searched-refused}
-use Rattle.search_laws.specs.how.Visits.{Explored, Explores}
+use Rattle.search_laws.specs.how.Visits.{wholeProgress, exploration}
+use Rattle.search_laws.specs.declared.Progress.{Progress}
+use Rattle.search_laws.proofs.ExploredLaws.{explored-refusal, explored-progress}
 use Rattle.search_laws.proofs.AnswerLaws.{leftWith, answers, explored-limited, explored-unsolvable, explored-room}
 use Rattle.search_laws.proofs.AnswerLaws.{explored-solved}
 use Rattle.search.proofs.search.Statement.{statement}
 use Rattle.search.proofs.search.Tie as tie
+
+-- what is asked: the set, the query and the room for its plan
+abbrev setOf : tie.Start → RuleSet
+setOf s = s .args .set
+
+abbrev queryOf : tie.Start → Query
+queryOf s =
+    let a = s .args in
+    asked (a .reach) (a .table .now) (a .start .now) (a .goal .now) (a .max-moves) (a .max-cost) (a .step-limit)
+
+abbrev roomOf : tie.Start → ℕ
+roomOf s = length (s .args .plan .now)
+
+-- the places: where the buffer is filled, the start, and past each return
+abbrev entryOf : tie.After-fill-from-arg → tie.Start
+entryOf c = let slices = c .before .before in slices .before .before .before
+
+abbrev filledAt : tie.After-explored → tie.After-fill-from
+filledAt c = c .before .before .before
+
+abbrev startOf : tie.After-explored → tie.Start
+startOf c = entryOf (filledAt c .before)
+
+abbrev judgedAt : tie.Else1 → tie.After-explored
+judgedAt c = c .before .before
+
+abbrev posedAt : tie.Else2 → tie.Else1
+posedAt c = c .before .before
+
+abbrev underAt : tie.Else3 → tie.Else2
+underAt c = c .before .before .before
+
+-- the progress that the search comes to
+abbrev progressOf : tie.Else1 → Progress
+progressOf c = judgedAt c .explored .result .progress
 
 fill-from-requires : tie.Need-fill-from-requires
 fill-from-requires c κs = search needs
@@ -23,35 +61,18 @@ fill-from-requires c κs = search needs
 explored-requires : tie.Need-explored-requires
 explored-requires c κs = search needs
 
--- the query that is asked
-abbrev queryOf : tie.Start → Query
-queryOf s =
-    let a = s .args in
-    asked (a .reach) (a .table .now) (a .start .now) (a .goal .now) (a .max-moves) (a .max-cost) (a .step-limit)
-
--- the room for its plan
-abbrev roomOf : tie.Start → ℕ
-roomOf s = length (s .args .plan .now)
-
-abbrev startOf : tie.After-explored → tie.Start
-startOf c = c .before .before .before .before .before .before .before .before .before
-
 -- the buffer is blank
-blank : (c : tie.After-explored)
-    → c .before .before .before .fill-from .last .0 ≡ replicate (roomOf (startOf c)) noMove
-blank c = c .before .before .before .fill-from .ensures ∙ filled-whole noMove (startOf c .args .plan .now)
+blank : (c : tie.After-explored) → filledAt c .fill-from .last .0 ≡ replicate (roomOf (startOf c)) noMove
+blank c = filledAt c .fill-from .ensures ∙ filled-whole noMove (startOf c .args .plan .now)
 
 -- of the length that it had
-sized : (c : tie.After-explored)
-    → length (c .before .before .before .fill-from .last .0) ≡ roomOf (startOf c)
+sized : (c : tie.After-explored) → length (filledAt c .fill-from .last .0) ≡ roomOf (startOf c)
 sized c = ap length (blank c) ∙ length-replicate (roomOf (startOf c)) noMove
 
 -- and the query is judged, and explored
 explores : (c : tie.After-explored)
-    → let s = startOf c in Explores (s .args .set) (queryOf s) (roomOf s) (c .explored .result)
-explores c =
-    let s = startOf c in
-    subst (λ room. Explores (s .args .set) (queryOf s) room (c .explored .result)) (sized c) (c .explored .ensures)
+    → let s = startOf c in c .explored .result ≡ exploration (setOf s) (queryOf s) (roomOf s)
+explores c = let s = startOf c in c .explored .ensures ∙ ap (exploration (setOf s) (queryOf s)) (sized c)
 
 without-plan-requires : tie.Need-without-plan-requires
 without-plan-requires c κs = search needs
@@ -59,28 +80,28 @@ without-plan-requires c κs = search needs
 same-length : tie.Need-same-length
 same-length c = search needs
 
+refusal : (c : tie.After-explored)
+    → let s = startOf c in c .explored .result .refusal ≡ firstRefusal (queryCauses (setOf s) (queryOf s) (roomOf s))
+refusal c = let s = startOf c in explored-refusal (setOf s) (queryOf s) (roomOf s) _ (explores c)
+
 returns : tie.Need-returns
 returns c =
     let judged = c .before .before .before in
     let s = startOf judged in
-    let e = explores judged .refused in
-    let refused = searched-refused (s .args .set) (queryOf s) (roomOf s) (λ k. c .before .if1 .taken (e ∙ k)) in
-    answers (s .args .set) (queryOf s) (roomOf s) _ _
-    (withoutPlan (roomOf s) (judged .explored .result .refusal) 0) (c .without-plan .ensures)
-    (blank judged)
-    (ap (λ n. withoutPlan (roomOf s) n 0) e ∙ sym refused)
+    let e = refusal judged in
+    let refused = searched-refused (setOf s) (queryOf s) (roomOf s) (λ k. c .before .if1 .taken (e ∙ k)) in
+    answers (setOf s) (queryOf s) (roomOf s) _ _ (withoutPlan (roomOf s) (judged .explored .result .refusal) 0)
+    (c .without-plan .ensures) (blank judged) (ap (λ n. withoutPlan (roomOf s) n 0) e ∙ sym refused)
 
 -- past the first return, the query is not refused
-abbrev judgedAt : tie.Else1 → tie.After-explored
-judgedAt c = c .before .before
-
 unrefused : (c : tie.Else1)
-    → let s = startOf (judgedAt c) in firstRefusal (queryCauses (s .args .set) (queryOf s) (roomOf s)) ≡ 0
-unrefused c = sym (explores (judgedAt c) .refused) ∙ c .if1 .left
+    → let s = startOf (judgedAt c) in firstRefusal (queryCauses (setOf s) (queryOf s) (roomOf s)) ≡ 0
+unrefused c = sym (refusal (judgedAt c)) ∙ c .if1 .left
 
-visited : (c : tie.Else1)
-    → let s = startOf (judgedAt c) in Explored (s .args .set) (queryOf s) (judgedAt c .explored .result .progress)
-visited c = explores (judgedAt c) .explored (c .if1 .left)
+visited : (c : tie.Else1) → let s = startOf (judgedAt c) in progressOf c ≡ wholeProgress (setOf s) (queryOf s)
+visited c =
+    let s = startOf (judgedAt c) in
+    explored-progress (setOf s) (queryOf s) (roomOf s) _ (explores (judgedAt c)) (c .if1 .left)
 
 without-plan-requires-2 : tie.Need-without-plan-requires-2
 without-plan-requires-2 c κs = search needs
@@ -93,9 +114,9 @@ returns-2 c =
     let posed = c .before .before .before in
     let judged = judgedAt posed in
     let s = startOf judged in
-    let found = explored-limited (s .args .set) (queryOf s) (roomOf s) (unrefused posed) (judged .explored .result .progress)
-    (visited posed) (c .before .if2 .taken) in
-    answers (s .args .set) (queryOf s) (roomOf s) _ _ _ (c .without-plan2 .ensures) (blank judged) found
+    let found = explored-limited (setOf s) (queryOf s) (roomOf s) (unrefused posed) (progressOf posed) (visited posed)
+    (c .before .if2 .taken) in
+    answers (setOf s) (queryOf s) (roomOf s) _ _ _ (c .without-plan2 .ensures) (blank judged) found
 
 without-plan-requires-3 : tie.Need-without-plan-requires-3
 without-plan-requires-3 c κs = search needs
@@ -105,34 +126,33 @@ same-length-3 c = search needs
 
 returns-3 : tie.Need-returns-3
 returns-3 c =
-    let under = c .before .before .before .before in
-    let posed = under .before .before in
+    let best = c .before .before .before in
+    let under = best .before in
+    let posed = posedAt under in
     let judged = judgedAt posed in
     let s = startOf judged in
-    let progress = judged .explored .result .progress in
-    let none = not-true (progress .best .found) (c .before .if3 .taken) in
-    let found = explored-unsolvable (s .args .set) (queryOf s) (roomOf s) (unrefused posed) progress (visited posed)
-    (under .if2 .left) none in
-    answers (s .args .set) (queryOf s) (roomOf s) _ _ _ (c .without-plan3 .ensures) (blank judged) found
+    let none = not-true (progressOf posed .best .found) (c .before .if3 .taken) in
+    let found = explored-unsolvable (setOf s) (queryOf s) (roomOf s) (unrefused posed) (progressOf posed)
+    (visited posed) (under .if2 .left) none in
+    answers (setOf s) (queryOf s) (roomOf s) _ _ _ (c .without-plan3 .ensures) (blank judged) found
 
 -- past the third, a plan is found
-abbrev underAt : tie.Else3 → tie.Else2
-underAt c = c .before .before .before
+plan-found : (c : tie.Else3) → progressOf (posedAt (underAt c)) .best .found ≡ true
+plan-found c = not-false (progressOf (posedAt (underAt c)) .best .found) (c .if3 .left)
 
-plan-found : (c : tie.Else3) → judgedAt (underAt c .before .before) .explored .result .progress .best .found ≡ true
-plan-found c = not-false (judgedAt (underAt c .before .before) .explored .result .progress .best .found) (c .if3 .left)
+abbrev solvedAt : tie.After-put-moves-arg → tie.Else3
+solvedAt c = c .before .before .before
 
 put-moves-requires : tie.Need-put-moves-requires
 put-moves-requires c κs =
-    let solved = c .before .before .before in
+    let solved = solvedAt c in
     let under = underAt solved in
-    let posed = under .before .before in
+    let posed = posedAt under in
     let judged = judgedAt posed in
     let s = startOf judged in
-    let progress = judged .explored .result .progress in
-    let room = explored-room (s .args .set) (queryOf s) (roomOf s) (unrefused posed) progress (visited posed) (under .if2 .left)
-    (plan-found solved) in
-    (room .0, subst (λ n. progress .best .length ≤ n) (sym (sized judged)) (room .1))
+    let room = explored-room (setOf s) (queryOf s) (roomOf s) (unrefused posed) (progressOf posed) (visited posed)
+    (under .if2 .left) (plan-found solved) in
+    (room .0, subst (λ n. progressOf posed .best .length ≤ n) (sym (sized judged)) (room .1))
 
 same-length-4 : tie.Need-same-length-4
 same-length-4 c = search needs
@@ -140,16 +160,17 @@ same-length-4 c = search needs
 returns-4 : tie.Need-returns-4
 returns-4 c =
     let put = c .before .before in
-    let solved = put .before .before .before .before in
+    let solved = solvedAt (put .before) in
     let under = underAt solved in
-    let posed = under .before .before in
+    let posed = posedAt under in
     let judged = judgedAt posed in
     let s = startOf judged in
-    let progress = judged .explored .result .progress in
-    let buffer = judged .before .before .before .fill-from .last .0 in
-    let found = explored-solved (s .args .set) (queryOf s) (roomOf s) (unrefused posed) progress (visited posed) (under .if2 .left)
-    (plan-found solved) buffer (blank judged) in
-    answers (s .args .set) (queryOf s) (roomOf s) _ _ (leftWith (progress .best) (progress .steps) buffer) refl (put .put-moves .ensures) found
+    let progress = progressOf posed in
+    let buffer = filledAt judged .fill-from .last .0 in
+    let found = explored-solved (setOf s) (queryOf s) (roomOf s) (unrefused posed) progress (visited posed)
+    (under .if2 .left) (plan-found solved) buffer (blank judged) in
+    answers (setOf s) (queryOf s) (roomOf s) _ _ (leftWith (progress .best) (progress .steps) buffer) refl
+    (put .put-moves .ensures) found
 
 pub search-spec : {M : Type 1} → statement M
 search-spec =

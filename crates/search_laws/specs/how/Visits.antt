@@ -1,7 +1,6 @@
 -- How the search goes about it, over what it lends to itself: the rules' lines and costs, the look-up, the goal and the
 -- limits. No promise of a call needs this file, only those of functions below the calls; the laws in proofs/ equate it with the definitions of `search_spec`.
 use mathlib.Core.Path.{_≡_}
-use mathlib.Core.Logic.{_≢_}
 use mathlib.Core.Bool.{Bool, true, false, not, cond, _&&_, _||_}
 use mathlib.Core.Option.{Option, some, none}
 use mathlib.Core.List.{List, [], _∷_}
@@ -18,7 +17,7 @@ use Rattle.model_spec.specs.Rules.{stepOf, ruleCost, sequenceCost}
 use Rattle.model_spec.specs.Refusals.{firstRefusal}
 use Rattle.model_spec.specs.declared.RuleSet.{RuleSet}
 use Rattle.search_spec.specs.Query.{Query, startState, meetsGoal, visitedBy}
-use Rattle.search_spec.specs.Searched.{noMove, queryCauses, cheapestPlan}
+use Rattle.search_spec.specs.Searched.{noMove, queryCauses}
 use Rattle.search_laws.specs.declared.Best.{Best}
 use Rattle.search_laws.specs.declared.Progress.{Progress}
 use Rattle.search_laws.specs.declared.Limits.{Limits}
@@ -123,17 +122,21 @@ unfoldable pub asBest : (Sequence → ℕ) → Option Sequence → Best
 asBest cost none = noBest
 asBest cost (some q) = bestOf (cost q) q
 
--- the steps are the visited sequences up to the limit; the best plan is the best of these, and the floor the least cost of the others; if there are no others, the best plan is the cheapest of all
-pub record Explored (set : RuleSet) (query : Query) (progress : Progress) : Type 0 where
-  pub steps : progress .steps ≡ min (length (visitedBy set query)) (query .stepLimit)
-  pub exceeded : progress .exceeded ≡ ltb (query .stepLimit) (length (visitedBy set query))
-  pub looked : progress .best ≡ asBest (sequenceCost set) (best (ruleCost set) (reaches (stepOf set) (startState query) (meetsGoal (query .goal))) none (take (query .stepLimit) (visitedBy set query)))
-  pub best : length (visitedBy set query) ≤ query .stepLimit → progress .best ≡ asBest (sequenceCost set) (cheapestPlan set query)
-  pub floor : progress .floor ≡ leastCost (ruleCost set) 65535 (drop (query .stepLimit) (visitedBy set query))
+-- the progress of the whole search: the steps are the visited sequences up to the limit; the best plan is the best of
+-- these, and the floor the least cost of the others
+unfoldable pub wholeProgress : RuleSet → Query → Progress
+wholeProgress set query =
+    let visits = visitedBy set query in
+    let good = reaches (stepOf set) (startState query) (meetsGoal (query .goal)) in
+    record {
+      steps = min (length visits) (query .stepLimit);
+      exceeded = ltb (query .stepLimit) (length visits);
+      best = asBest (sequenceCost set) (best (ruleCost set) good none (take (query .stepLimit) visits));
+      floor = leastCost (ruleCost set) 65535 (drop (query .stepLimit) visits);
+    }
 
--- what a query comes to: the first cause for which it is refused, if one holds; if none does, the progress of the whole
--- search, else none
-pub record Explores (set : RuleSet) (query : Query) (room : ℕ) (exploration : Exploration) : Type 0 where
-  pub refused : exploration .refusal ≡ firstRefusal (queryCauses set query room)
-  pub explored : exploration .refusal ≡ 0 → Explored set query (exploration .progress)
-  pub blank : exploration .refusal ≢ 0 → exploration .progress ≡ noProgress
+-- what a query comes to: the first cause for which it is refused; if none holds, with the progress of the whole search
+unfoldable pub exploration : RuleSet → Query → ℕ → Exploration
+exploration set query room =
+    let refusal = firstRefusal (queryCauses set query room) in
+    record { refusal = refusal; progress = cond (eqb refusal 0) (wholeProgress set query) noProgress }
