@@ -1,6 +1,7 @@
 // Runs the search, the plan handed back and the calls on tallies on the cases of standard input and prints what
-// they give. A case is a line: a letter, a space and a text. Each line is printed again, cut at 120 bytes, with the answer after it. A line
-// that begins with `#` is a heading. A number too large for 64 bits counts as the largest that is not.
+// they give. A case is a line: a letter, a space and a text. Each line is printed again, cut at 120 bytes, with the
+// answer after it. A line that begins with `#` is a heading. A number too large for 64 bits counts as the largest that
+// is not.
 // - `f` read the text, in which `/` stands for a line feed: the outcome. Its set is the one of the lines that follow
 // - `s` change the set's number of positions and its number of rules to these two: whether it is valid
 // - `b` a reach and a size: fill that many bytes with 170 and build a table in them, which then stands: the outcome

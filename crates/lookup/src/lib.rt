@@ -1,4 +1,5 @@
-// One look-up for all segments that end in the newest rule: a byte for each index, whether a suffix of its sequence is marked.
+// One look-up for all segments that end in the newest rule: a byte for each index, whether a suffix of its sequence is
+// marked.
 use bounded::at_most;
 use bounded::smaller;
 use tables::KEPT;
@@ -28,8 +29,8 @@ fn tail_index(count: usize, index: usize) -> usize
     ((before - 1) % count + 1) * count + newest
 }
 
-// The look-up of a table, by how many rules the set has, of which 31 count: a suffix of a sequence is the sequence itself, or one of what
-// is left without its first rule.
+// The look-up of a table, by how many rules the set has, of which 31 count: a suffix of a sequence is the sequence
+// itself, or one of what is left without its first rule.
 pub fn lookup_of(count: u8, table: &[u8]) -> [u8; 30784]
     ensures { λ r. ⌜ LooksUp (min count 31) (now (table .entry)) r ⌝ }
 {

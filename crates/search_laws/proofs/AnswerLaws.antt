@@ -40,7 +40,7 @@ put-front p size h =
 
 -- ── The answer ───────────────────────────────────────────────────────────────────────────────────
 
--- what is leftWith with a best plan, whose moves are put into a blank buffer
+-- what is left with a best plan, whose moves are put into a blank buffer
 abbrev pub leftWith : Best → ℕ → List ℕ → Searched
 leftWith best steps blank =
     record {

@@ -9,7 +9,8 @@ pub struct Best {
     pub moves: [u8; 32],
 }
 
-// How far the search has come: the sequences visited, at most the step limit; whether there are more than the limit; the best plan of those visited; the least cost of those met beyond the limit.
+// How far the search has come: the sequences visited, at most the step limit; whether there are more than the limit;
+// the best plan of those visited; the least cost of those met beyond the limit.
 pub struct Progress {
     pub steps: u32,
     pub exceeded: bool,
@@ -17,7 +18,8 @@ pub struct Progress {
     pub floor: u16,
 }
 
-// What stays the same all through a search: how many positions and rules the set has, the table's reach, the cost bound and the step limit.
+// What stays the same all through a search: how many positions and rules the set has, the table's reach, the cost bound
+// and the step limit.
 pub struct Limits {
     pub positions: usize,
     pub count: usize,

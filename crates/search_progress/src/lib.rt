@@ -27,10 +27,10 @@ fn meets_goal(goal: &[u8], state: &[u8; 16]) -> bool
     true
 }
 
-// Whether a plan of that cost and length replaces the best so far: it is cheaper, or costs the same and is shorter.
-// Of equals the first one met stays.
-fn replaces(best: Best, cost: u16, length: u8) -> bool
-    ensures { λ r. ⌜ r ≡ replaces best cost length ⌝ }
+// Whether a plan of that cost and that many moves replaces the best so far: it is cheaper, or costs the same and is
+// shorter. Of equals the first one met stays.
+fn replaces(best: Best, cost: u16, depth: u8) -> bool
+    ensures { λ r. ⌜ r ≡ replaces best cost depth ⌝ }
 {
     if !best.found {
         return true;
@@ -41,7 +41,7 @@ fn replaces(best: Best, cost: u16, length: u8) -> bool
     if best.cost < cost {
         return false;
     }
-    length < best.length
+    depth < best.length
 }
 
 // The lower of two costs.

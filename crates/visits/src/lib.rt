@@ -1,6 +1,6 @@
 // The visits (document 01: the walk): a query is judged, and if it is not refused, its sequences are visited by a
-// function that calls itself for each extension of a sequence. Arrays are lent; limits, steps and best plan pass through
-// by value.
+// function that calls itself for each extension of a sequence. Arrays are lent; limits, steps and best plan pass
+// through by value.
 use lookup::first_place;
 use lookup::lookup_of;
 use model_spec::RuleSet;
@@ -25,8 +25,8 @@ ghost use Rattle.search_laws.specs.how.Visits.{Lent, Reached, visitsFrom, explo
 // The floor while no sequence beyond the limit is met: no cost is larger.
 const NO_FLOOR: u16 = 65535;
 
-// Visits a sequence and all that extends it by at most `left` moves: the first `depth` moves of the plan, which have led
-// to the state at that cost. Beyond the limit it extends no sequence.
+// Visits a sequence and all that extends it by at most `left` moves: the first `depth` moves of the plan, which have
+// led to the state at that cost. Beyond the limit it extends no sequence.
 fn visit_from(
     conditions: &[[u8; 16]; 31],
     effects: &[[u8; 16]; 31],

@@ -33,14 +33,21 @@ returns-2 c =
 moves-of-requires : tie.Need-moves-of-requires
 moves-of-requires c κs = search needs
 
+-- the places: where there is a move to look at, the start, and where two moves are looked at
+abbrev someOf : tie.After-moves-of → tie.Else2
+someOf c = c .before .before
+
 abbrev startOf : tie.After-moves-of → tie.Start
-startOf c = c .before .before .before .before
+startOf c = someOf c .before .before
+
+abbrev twoOf : tie.Else4 → tie.After-moves-of
+twoOf c = c .before .before .before
 
 -- the moves that count are one or more, and no more than there are
 counted : (c : tie.After-moves-of)
     → (1 ≤ c .moves-of .result) × (c .moves-of .result ≤ length (startOf c .args .plan .now))
 counted c = (
-  omega (arith, c .moves-of .ensures, c .before .before .if2 .left),
+  omega (arith, c .moves-of .ensures, someOf c .if2 .left),
   omega (arith, c .moves-of .ensures, c .before .moves .given .0),
 )
 
@@ -124,19 +131,19 @@ returns-4 c =
     let n = manyOf s in
     let d = call .moves-of .result in
     let plan = s .args .plan .now in
-    let more : 1 ≤ n = omega (arith, call .before .before .before .if1 .left) in
+    let more : 1 ≤ n = omega (arith, someOf call .before .if1 .left) in
     let alone = last-empty m (n - 1) (d - 1) plan (omega (arith, call .moves-of .ensures, c .if4 .taken)) in
     placed call (getD plan (d - 1) 0) (last-one m n d plan more (counted call .0) (counted call .1) alone)
 
 sub-before : tie.Need-sub-before
 sub-before c =
-    omega (arith, c .before .before .before .moves-of .ensures, c .if4 .left, counted (c .before .before .before))
+    omega (arith, twoOf c .moves-of .ensures, c .if4 .left, counted (twoOf c))
 
 shared-slice-read-before : tie.Need-shared-slice-read-before
-shared-slice-read-before c = omega (arith, counted (c .before .before .before .before))
+shared-slice-read-before c = omega (arith, counted (twoOf (c .before)))
 
 cast-before : tie.Need-cast-before
-cast-before c = omega (arith, c .shared-slice-known2 .given (c .before .before .before .before .moves-of .result - 2))
+cast-before c = omega (arith, c .shared-slice-known2 .given (twoOf (c .before) .moves-of .result - 2))
 
 mul-result-3 : tie.Need-mul-result-3
 mul-result-3 c = omega (arith, small (c .before .before .before))
@@ -152,12 +159,12 @@ add-result-4 c = omega (arith, small (c .before .before .before))
 
 returns-5 : tie.Need-returns-5
 returns-5 c =
-    let call = c .before .before .before .before in
+    let call = twoOf (c .before) in
     let s = startOf call in
     let m = s .args .count in
     let d = call .moves-of .result in
     let plan = s .args .plan .now in
-    let both : manyOf s ≡ 2 = omega (arith, call .before .before .before .if1 .left, c .before .before .if3 .left) in
+    let both : manyOf s ≡ 2 = omega (arith, someOf call .before .if1 .left, c .before .before .if3 .left) in
     let more : 2 ≤ d = omega (arith, call .moves-of .ensures, c .before .if4 .left, counted call) in
     placed call (getD plan (d - 2) 0 * m + getD plan (d - 1) 0)
     (last-two m (manyOf s) d plan both more (counted call .1))

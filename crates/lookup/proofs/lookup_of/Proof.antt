@@ -25,6 +25,13 @@ Inv-loop count table rules end blocked₀ i₀ blocked i =
 abbrev μ-loop : tie.MeasureT-loop
 μ-loop count table rules end blocked₀ i₀ blocked i = end - i
 
+-- the places: the start, and where the rules are counted
+abbrev entryOf : tie.After-at-most Inv-loop μ-loop → tie.Start Inv-loop μ-loop
+entryOf c = c .before .before
+
+abbrev rulesAt : tie.After-smaller Inv-loop μ-loop → tie.After-at-most Inv-loop μ-loop
+rulesAt c = c .before .before
+
 at-most-requires : tie.Need-at-most-requires Inv-loop μ-loop
 at-most-requires c κs = search needs
 
@@ -36,11 +43,10 @@ smaller-requires c κs = search needs
 
 loop-holds : tie.Need-loop-holds Inv-loop μ-loop
 loop-holds c =
-    let s = c .before .before .before .before in (
+    let table = entryOf (rulesAt c) .args .table .now in (
       omega arith,
       length-replicate {A = ℕ} 30784 0,
-      look-up-start (c .before .before .at-most .result)
-          (s .args .table .now) 30784,
+      look-up-start (rulesAt c .at-most .result) table 30784,
       λ j h. zeros-at 30784 j,
     )
 
@@ -48,10 +54,10 @@ cast-tail-index : tie.Need-cast-tail-index Inv-loop μ-loop
 cast-tail-index c = search needs
 
 abbrev startOf : tie.At-loop Inv-loop μ-loop → tie.Start Inv-loop μ-loop
-startOf l = l .before .before .before .before .before
+startOf l = entryOf (rulesAt (l .before))
 
 abbrev rulesOf : tie.At-loop Inv-loop μ-loop → ℕ
-rulesOf l = l .before .before .before .at-most .result
+rulesOf l = rulesAt (l .before) .at-most .result
 
 -- the places that are filled
 end-is : (l : tie.At-loop Inv-loop μ-loop)
@@ -66,7 +72,7 @@ inside turn = omega (arith, turn .loop-test .taken, end-is (turn .before))
 
 -- which are at most 31
 few : (l : tie.At-loop Inv-loop μ-loop) → rulesOf l ≤ 31
-few l = omega (arith, l .before .before .before .at-most .ensures)
+few l = omega (arith, rulesAt (l .before) .at-most .ensures)
 
 -- and it is one of the look-up's
 near : (turn : tie.In-loop Inv-loop μ-loop) → turn .before .loop .i < 30784
@@ -121,7 +127,7 @@ returns : tie.Need-returns Inv-loop μ-loop
 returns c =
     let l = c .before in
     let table = startOf l .args .table .now in
-    subst (λ m. LooksUp m table (l .loop .blocked)) (l .before .before .before .at-most .ensures)
+    subst (λ m. LooksUp m table (l .loop .blocked)) (rulesAt (l .before) .at-most .ensures)
     (look-up-whole (rulesOf l) table (l .loop .blocked) (l .loop .i) (l .before .smaller .result) (end-is l)
     (c .loop-test .left) (l .loop .inv .2) (l .loop .inv .3))
 

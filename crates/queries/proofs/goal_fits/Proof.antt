@@ -22,10 +22,20 @@ abbrev test : List ℕ → List ℕ → ℕ → Bool
 test sizes goal i = eqb (getD goal i 0) anyValue || ltb (getD goal i 0) (getD sizes i 0)
 
 abbrev Inv-loop : tie.InvT-loop
-Inv-loop goal positions sizes i₀ i = (i ≤ positions) × (every (test sizes goal) (numbersFrom i (positions - i)) ≡ (eqb (length goal) positions && every (test sizes goal) (numbersFrom 0 positions)))
+Inv-loop goal positions sizes i₀ i =
+    (i ≤ positions)
+    × (every (test sizes goal) (numbersFrom i (positions - i))
+    ≡ (eqb (length goal) positions && every (test sizes goal) (numbersFrom 0 positions)))
 
 abbrev μ-loop : tie.MeasureT-loop
 μ-loop goal positions sizes i₀ i = positions - i
+
+-- the start, from where the sizes are had and from the loop's head
+abbrev entryOf : tie.After-sizes Inv-loop μ-loop → tie.Start Inv-loop μ-loop
+entryOf c = c .before .before .before
+
+abbrev startOf : tie.At-loop Inv-loop μ-loop → tie.Start Inv-loop μ-loop
+startOf head = entryOf (head .before)
 
 cast-positions : tie.Need-cast-positions Inv-loop μ-loop
 cast-positions c = search needs
@@ -36,7 +46,7 @@ returns c = rw (ne-eqb _ _ (c .if1 .taken))
 
 loop-holds : tie.Need-loop-holds Inv-loop μ-loop
 loop-holds c =
-    let s = c .before .before .before .args in
+    let s = entryOf c .args in
     let all : s .set .positions - 0 ≡ s .set .positions = omega arith in
     (search needs, rw all (sized (s .goal .now) _ _ (c .before .if1 .left)))
 
@@ -52,10 +62,12 @@ shared-slice-read-if3 c = search needs
 returns-2 : tie.Need-returns-2 Inv-loop μ-loop
 unfolding goalFits
 returns-2 c =
-    let s = c .before .before .before .before .before .before .before .before .before .args in
-    let l = c .before .before .before .before .before .loop in
+    let wanted = c .before .before in
+    let head = wanted .before .before .before in
+    let s = startOf head .args in
+    let l = head .loop in
     every-stop (test (s .set .sizes) (s .goal .now)) (l .i) (s .set .positions) _ (l .inv .1) (omega arith)
-    (rw (ne-eqb _ _ (c .before .before .if2 .taken)) (le-ltb _ _ (c .if3 .taken)))
+    (rw (ne-eqb _ _ (wanted .if2 .taken)) (le-ltb _ _ (c .if3 .taken)))
 
 add-i : tie.Need-add-i Inv-loop μ-loop
 add-i c = search needs
@@ -65,18 +77,20 @@ loop-less c = search needs
 
 loop-again : tie.Need-loop-again Inv-loop μ-loop
 loop-again c =
-    let s = c .before .before .before .before .before .before .before .args in
-    let l = c .before .before .before .loop in
+    let head = c .before .before .before in
+    let s = startOf head .args in
+    let l = head .loop in
     let byte = getD (s .goal .now) (l .i) 0 in
     let size = getD (s .set .sizes) (l .i) 0 in
     let passed : test (s .set .sizes) (s .goal .now) (l .i) ≡ true =
-    ⊎-elim (λ w. or-right (eqb byte anyValue) (lt-ltb byte size (w .2 .left))) (λ w. or-left (ltb byte size) (eq-eqb byte anyValue (w .left))) (c .if2 .came) in
+    ⊎-elim (λ w. or-right (eqb byte anyValue) (lt-ltb byte size (w .2 .left)))
+    (λ w. or-left (ltb byte size) (eq-eqb byte anyValue (w .left))) (c .if2 .came) in
     (search needs, every-go (test (s .set .sizes) (s .goal .now)) (l .i) (s .set .positions) _ (l .inv .1) (omega arith) passed)
 
 returns-3 : tie.Need-returns-3 Inv-loop μ-loop
 unfolding goalFits
 returns-3 c =
-    let s = c .before .before .before .before .before .args in
+    let s = startOf (c .before) .args in
     let l = c .before .loop in
     every-end (test (s .set .sizes) (s .goal .now)) (l .i) (s .set .positions) _ (l .inv .1) (omega arith)
 

@@ -22,16 +22,23 @@ queryOf s cost limit =
     let a = s .args in
     asked (a .reach) (a .table .now) (a .start .now) (a .goal .now) (a .max-moves) cost limit
 
+-- the start, from the check of the table
+abbrev entryOf : tie.After-shared-slice-known3 → tie.Start
+entryOf c = c .before .before .before
+
+abbrev callOf : tie.After-check-table → tie.Start
+callOf c = entryOf (c .before)
+
 returns : tie.Need-returns
 returns c cost limit =
     let call = c .before .before in
-    let s = call .before .before .before .before in
+    let s = callOf call in
     let e = call .check-table .ensures .0 in
     e ∙ shared-refusal (s .args .set) (queryOf s cost limit) (s .args .plan-size) (λ k. c .before .if1 .taken (e ∙ k)) (λ k. c .if2 .taken (e ∙ k))
 
 -- past the first return, what is shared is judged
 abbrev startOf : tie.Joined1 → tie.Start
-startOf c = c .before .before .before .before .before
+startOf c = callOf (c .before)
 
 ready : (c : tie.Joined1) → Ready (startOf c .args .set) (startOf c .args .reach) (length (startOf c .args .table .now))
 ready c =
@@ -63,7 +70,10 @@ returns-3 c cost limit =
     goal-refusal (s .args .set) (queryOf s cost limit) (s .args .plan-size) (ready (started .before .before)) (start-fits started) misfit
 
 -- past the third, so does the goal
-goal-fits : (c : tie.Else4) → let s = startOf (c .before .before .before .before) in goalFits (s .args .set) (s .args .goal .now) ≡ true
+goal-fits : (c : tie.Else4)
+    → let started = c .before .before in
+    let s = startOf (started .before .before) in
+    goalFits (s .args .set) (s .args .goal .now) ≡ true
 goal-fits c = passed (c .before .goal-fits .ensures) (c .if4 .left)
 
 returns-4 : tie.Need-returns-4

@@ -20,10 +20,20 @@ abbrev test : List ℕ → List ℕ → ℕ → Bool
 test sizes start i = ltb (getD start i 0) (getD sizes i 0)
 
 abbrev Inv-loop : tie.InvT-loop
-Inv-loop start positions sizes i₀ i = (i ≤ positions) × (every (test sizes start) (numbersFrom i (positions - i)) ≡ (eqb (length start) positions && every (test sizes start) (numbersFrom 0 positions)))
+Inv-loop start positions sizes i₀ i =
+    (i ≤ positions)
+    × (every (test sizes start) (numbersFrom i (positions - i))
+    ≡ (eqb (length start) positions && every (test sizes start) (numbersFrom 0 positions)))
 
 abbrev μ-loop : tie.MeasureT-loop
 μ-loop start positions sizes i₀ i = positions - i
+
+-- the start, from where the sizes are had and from the loop's head
+abbrev entryOf : tie.After-sizes Inv-loop μ-loop → tie.Start Inv-loop μ-loop
+entryOf c = c .before .before .before
+
+abbrev startOf : tie.At-loop Inv-loop μ-loop → tie.Start Inv-loop μ-loop
+startOf head = entryOf (head .before)
 
 cast-positions : tie.Need-cast-positions Inv-loop μ-loop
 cast-positions c = search needs
@@ -34,7 +44,7 @@ returns c = rw (ne-eqb _ _ (c .if1 .taken))
 
 loop-holds : tie.Need-loop-holds Inv-loop μ-loop
 loop-holds c =
-    let s = c .before .before .before .args in
+    let s = entryOf c .args in
     let all : s .set .positions - 0 ≡ s .set .positions = omega arith in
     (search needs, rw all (sized (s .start .now) _ _ (c .before .if1 .left)))
 
@@ -47,8 +57,9 @@ shared-slice-read-if2 c = search needs
 returns-2 : tie.Need-returns-2 Inv-loop μ-loop
 unfolding startFits
 returns-2 c =
-    let s = c .before .before .before .before .before .before .before .args in
-    let l = c .before .before .before .loop in
+    let head = c .before .before .before in
+    let s = startOf head .args in
+    let l = head .loop in
     every-stop (test (s .set .sizes) (s .start .now)) (l .i) (s .set .positions) _ (l .inv .1) (omega arith) (le-ltb _ _ (c .if2 .taken))
 
 add-i : tie.Need-add-i Inv-loop μ-loop
@@ -59,14 +70,15 @@ loop-less c = search needs
 
 loop-again : tie.Need-loop-again Inv-loop μ-loop
 loop-again c =
-    let s = c .before .before .before .before .before .before .before .args in
-    let l = c .before .before .before .loop in
+    let head = c .before .before .before in
+    let s = startOf head .args in
+    let l = head .loop in
     (search needs, every-go (test (s .set .sizes) (s .start .now)) (l .i) (s .set .positions) _ (l .inv .1) (omega arith) (lt-ltb _ _ (c .if2 .left)))
 
 returns-3 : tie.Need-returns-3 Inv-loop μ-loop
 unfolding startFits
 returns-3 c =
-    let s = c .before .before .before .before .before .args in
+    let s = startOf (c .before) .args in
     let l = c .before .loop in
     every-end (test (s .set .sizes) (s .start .now)) (l .i) (s .set .positions) _ (l .inv .1) (omega arith)
 

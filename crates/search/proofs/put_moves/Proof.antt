@@ -10,7 +10,8 @@ use Rattle.search.proofs.put_moves.Statement.{statement}
 use Rattle.search.proofs.put_moves.Tie as tie
 
 abbrev Inv-loop : tie.InvT-loop
-Inv-loop moves many plan₀ entries end i₀ plan i = (i ≤ end) × (length plan ≡ length plan₀) × (plan ≡ copied plan₀ entries i)
+Inv-loop moves many plan₀ entries end i₀ plan i =
+    (i ≤ end) × (length plan ≡ length plan₀) × (plan ≡ copied plan₀ entries i)
 
 abbrev μ-loop : tie.MeasureT-loop
 μ-loop moves many plan₀ entries end i₀ plan i = end - i
@@ -32,9 +33,14 @@ loop-less c = search needs
 
 loop-again : tie.Need-loop-again Inv-loop μ-loop
 loop-again c =
-    let start = c .before .before .before .before in
-    let l = c .before .before .loop in
-    (search needs, simp length-set (l .inv .1), copied-more _ (start .args .moves .now) (l .i) (l .plan) _ 0 (omega (arith, l .inv, start .pre)) (omega arith) (l .inv .2) refl)
+    let head = c .before .before in
+    let start = head .before .before in
+    let l = head .loop in (
+      search needs,
+      simp length-set (l .inv .1),
+      copied-more _ (start .args .moves .now) (l .i) (l .plan) _ 0 (omega (arith, l .inv, start .pre)) (omega arith)
+          (l .inv .2) refl,
+    )
 
 same-length : tie.Need-same-length Inv-loop μ-loop
 same-length c = search needs

@@ -1,5 +1,5 @@
--- The look-up that spares the search a look at each segment: one byte for each index, whether a suffix of its sequence is
--- marked. No promise of a call needs this file, only those of functions below the calls.
+-- The look-up that spares the search a look at each segment: one byte for each index, whether a suffix of its sequence
+-- is marked. No promise of a call needs this file, only those of functions below the calls.
 use mathlib.Core.Path.{_≡_}
 use mathlib.Core.Bool.{Bool, not, cond, _&&_}
 use mathlib.Core.List.{List}

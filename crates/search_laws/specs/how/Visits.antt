@@ -1,5 +1,6 @@
 -- How the search goes about it, over what it lends to itself: the rules' lines and costs, the look-up, the goal and the
--- limits. No promise of a call needs this file, only those of functions below the calls; the laws in proofs/ equate it with the definitions of `search_spec`.
+-- limits. No promise of a call needs this file, only those of functions below the calls; the laws in proofs/ equate it
+-- with the definitions of `search_spec`.
 use mathlib.Core.Path.{_≡_}
 use mathlib.Core.Bool.{Bool, true, false, not, cond, _&&_, _||_}
 use mathlib.Core.Option.{Option, some, none}
@@ -27,7 +28,8 @@ use Rattle.search_laws.specs.declared.Exploration.{Exploration}
 
 -- the state that rule r leads to, by the conditions and effects
 unfoldable pub lentStep : List (List ℕ) → List (List ℕ) → ℕ → State → Option State
-lentStep conditions effects r s = onlyIf (applicable (getD conditions (r - 1) []) s) (successor (getD effects (r - 1) []) s)
+lentStep conditions effects r s =
+    onlyIf (applicable (getD conditions (r - 1) []) s) (successor (getD effects (r - 1) []) s)
 
 -- the first n places of a state hold what a condition's entries there stand for
 unfoldable pub meetsWithin : ℕ → List ℕ → State → Bool
@@ -44,13 +46,17 @@ laidOver (suc n) (x ∷ new) (y ∷ old) = x ∷ laidOver n new old
 unfoldable pub lentCost : List ℕ → ℕ → ℕ
 lentCost costs r = getD costs (r - 1) 0
 
--- the search may go on to q: it costs no more than the cost bound, and the look-up at the index of its last `reach` rules finds no mark
+-- the search may go on to q: it costs no more than the cost bound, and the look-up at the index of its last `reach`
+-- rules finds no mark
 unfoldable pub mayGoOn : List ℕ → List ℕ → Limits → Sequence → Bool
-mayGoOn costs blocked limits q = leb (costOf (lentCost costs) q) (limits .«max_cost») && eqb (getD blocked (indexOf (limits .count) (last (limits .reach) q)) 0) 0
+mayGoOn costs blocked limits q =
+    leb (costOf (lentCost costs) q) (limits .«max_cost»)
+    && eqb (getD blocked (indexOf (limits .count) (last (limits .reach) q)) 0) 0
 
 -- ── What the search carries along ────────────────────────────────────────────────────────────────
 
--- a plan of n moves at a cost replaces the best so far: there is none yet, or it is cheaper, or costs the same and is shorter
+-- a plan of n moves at a cost replaces the best so far: there is none yet, or it is cheaper, or costs the same and is
+-- shorter
 unfoldable pub replaces : Best → ℕ → ℕ → Bool
 replaces best cost n = not (best .found) || (ltb cost (best .cost) || (eqb cost (best .cost) && ltb n (best .length)))
 
@@ -84,9 +90,11 @@ unfoldable pub noProgress : Progress
 noProgress = record { steps = 0; exceeded = false; best = noBest; floor = 65535 }
 
 -- the progress after the sequence q, which has led to the state s, and all that extends it by at most n rules
-unfoldable pub visitsFrom : List (List ℕ) → List (List ℕ) → List ℕ → List ℕ → List ℕ → Limits → ℕ → Sequence → State → Progress → Progress
+unfoldable pub visitsFrom : List (List ℕ) → List (List ℕ) → List ℕ → List ℕ → List ℕ → Limits
+    → ℕ → Sequence → State → Progress → Progress
 visitsFrom conditions effects costs blocked goal limits =
-    exploreWith (lentStep conditions effects) (limits .count) (λ q _. mayGoOn costs blocked limits q) (λ q. noted goal (limits .«step_limit») (costOf (lentCost costs) q) q)
+    exploreWith (lentStep conditions effects) (limits .count) (λ q _. mayGoOn costs blocked limits q)
+    (λ q. noted goal (limits .«step_limit») (costOf (lentCost costs) q) q)
 
 -- ── What the recursion asks ──────────────────────────────────────────────────────────────────────
 
@@ -107,7 +115,8 @@ pub record Lent (conditions effects : List (List ℕ)) (goal : List ℕ) (limits
   pub conditionEnds : (k : ℕ) → k < limits .count → EndsAt (limits .positions) (getD conditions k [])
   pub effectEnds : (k : ℕ) → k < limits .count → EndsAt (limits .positions) (getD effects k [])
 
--- the first n moves of the plan are the sequence so far: rules of the set, at that cost, with at most `left` moves to come; the rest of the plan is blank, and the state ends in zeros
+-- the first n moves of the plan are the sequence so far: rules of the set, at that cost, with at most `left` moves to
+-- come; the rest of the plan is blank, and the state ends in zeros
 pub record Reached (costs : List ℕ) (limits : Limits) (state plan : List ℕ) (n cost left : ℕ) : Type 0 where
   pub room : n + left ≤ 32
   pub rest : plan ≡ padded 32 noMove (take n plan)

@@ -1,5 +1,5 @@
--- `search_progress::meets_goal` meets its contract. The invariant: the bytes from place i on, of the goal's first sixteen, decide
--- the whole.
+-- `search_progress::meets_goal` meets its contract. The invariant: the bytes from place i on, of the goal's first
+-- sixteen, decide the whole.
 -- Assumes nothing.
 use mathlib.Core.Path.{_≡_, ap, _∙_}
 use mathlib.Core.Logic.{⊎-elim}
@@ -28,13 +28,19 @@ Inv-loop goal state held end i₀ i =
 abbrev μ-loop : tie.MeasureT-loop
 μ-loop goal state held end i₀ i = end - i
 
+abbrev entryOf : tie.After-smaller Inv-loop μ-loop → tie.Start Inv-loop μ-loop
+entryOf c = c .before .before .before
+
+abbrev startOf : tie.In-loop Inv-loop μ-loop → tie.Start Inv-loop μ-loop
+startOf turn = entryOf (turn .before .before)
+
 smaller-requires : tie.Need-smaller-requires Inv-loop μ-loop
 smaller-requires c κs = search needs
 
 loop-holds : tie.Need-loop-holds Inv-loop μ-loop
 unfolding meetsGoal
 loop-holds c =
-    let goal = c .before .before .before .args .goal .now in
+    let goal = entryOf c .args .goal .now in
     let e : length (take 16 goal) - 0 ≡ length (take 16 goal) = omega arith in
     (omega arith, omega (arith, c .smaller .ensures, length-take 16 goal), rw e)
 
@@ -46,9 +52,6 @@ shared-slice-read-if2 c = search needs
 
 shared-slice-read-if2-2 : tie.Need-shared-slice-read-if2-2 Inv-loop μ-loop
 shared-slice-read-if2-2 c = search needs
-
-abbrev startOf : tie.In-loop Inv-loop μ-loop → tie.Start Inv-loop μ-loop
-startOf turn = turn .before .before .before .before .before
 
 -- the place of a turn is one of the goal's first sixteen
 inside : (turn : tie.In-loop Inv-loop μ-loop) → turn .before .loop .i < length (take 16 (startOf turn .args .goal .now))
@@ -64,9 +67,10 @@ wanted turn =
 
 returns : tie.Need-returns Inv-loop μ-loop
 returns c =
-    let turn = c .before .before .before .before .before in
+    let wants = c .before .before .before in
+    let turn = wants .before .before in
     every-stop _ _ _ _ (turn .before .loop .inv .2) (inside turn)
-    (rw (wanted turn, ne-eqb _ _ (c .before .before .before .if1 .taken), ne-eqb _ _ (c .if2 .taken)))
+    (rw (wanted turn, ne-eqb _ _ (wants .if1 .taken), ne-eqb _ _ (c .if2 .taken)))
 
 add-i : tie.Need-add-i Inv-loop μ-loop
 add-i c = search needs
@@ -91,7 +95,7 @@ loop-again c =
 returns-2 : tie.Need-returns-2 Inv-loop μ-loop
 returns-2 c =
     let l = c .before .loop in
-    let goal = c .before .before .before .before .before .args .goal .now in
+    let goal = entryOf (c .before .before) .args .goal .now in
     let all : length (take 16 goal) ≤ l .i = omega (arith, c .loop-test .left, l .inv .1) in
     every-end _ _ _ _ (l .inv .2) all
 

@@ -1,5 +1,5 @@
--- `search_states::runs_within` meets its contract. The invariant: what is left of the condition and the state from place i on,
--- to the positions, decides the whole.
+-- `search_states::runs_within` meets its contract. The invariant: what is left of the condition and the state from place
+-- i on, to the positions, decides the whole.
 -- Assumes nothing.
 use mathlib.Core.Path.{_≡_, refl, sym, ap, _∙_}
 use mathlib.Core.List.{map}
@@ -40,8 +40,11 @@ value-requires c κs = search needs
 shared-slice-read-if1 : tie.Need-shared-slice-read-if1 Inv-loop μ-loop
 shared-slice-read-if1 c = search needs
 
+abbrev entryOf : tie.After-smaller Inv-loop μ-loop → tie.Start Inv-loop μ-loop
+entryOf c = c .before .before .before
+
 abbrev startOf : tie.In-loop Inv-loop μ-loop → tie.Start Inv-loop μ-loop
-startOf turn = turn .before .before .before .before .before
+startOf turn = entryOf (turn .before .before)
 
 abbrev endOf : tie.In-loop Inv-loop μ-loop → ℕ
 endOf turn = turn .before .before .smaller .result
@@ -54,20 +57,21 @@ inside : (turn : tie.In-loop Inv-loop μ-loop)
 inside turn =
     let s = startOf turn .args in
     let l = turn .before .loop in
+    let lent = turn .before .before .before in
     let end = endOf turn in (
       omega (
         arith,
         turn .loop-test .taken,
         l .inv .1,
         length-take end (s .condition .now),
-        turn .before .before .before .before .entries .given .0,
+        lent .before .entries .given .0,
       ),
       omega (
         arith,
         turn .loop-test .taken,
         l .inv .1,
         length-take end (s .state .now),
-        turn .before .before .before .held .given .0,
+        lent .held .given .0,
       ),
     )
 
@@ -86,12 +90,13 @@ state-there turn =
 
 returns : tie.Need-returns Inv-loop μ-loop
 returns c =
-    let turn = c .before .before .before .before in
+    let valued = c .before .before in
+    let turn = valued .before .before in
     let s = startOf turn .args in
     let f : ℕ → ℕ = λ e. valueOf e (s .state .now) in
     same-stop f (take (endOf turn) (s .condition .now)) (take (endOf turn) (s .state .now)) (turn .before .loop .i) _
     (turn .before .loop .inv .2) (inside turn .0) (inside turn .1)
-    (λ e. c .if1 .taken (c .before .before .value .ensures ∙ sym (ap f (condition-there turn)) ∙ e ∙ state-there turn))
+    (λ e. c .if1 .taken (valued .value .ensures ∙ sym (ap f (condition-there turn)) ∙ e ∙ state-there turn))
     ∙ ap (λ n. meetsWithin n (s .condition .now) (s .state .now)) (turn .before .loop .inv .1)
 
 add-i : tie.Need-add-i Inv-loop μ-loop
@@ -102,11 +107,12 @@ loop-less c = search needs
 
 loop-again : tie.Need-loop-again Inv-loop μ-loop
 loop-again c =
-    let turn = c .before .before .before .before in
+    let valued = c .before .before in
+    let turn = valued .before .before in
     let s = startOf turn .args in
     let f : ℕ → ℕ = λ e. valueOf e (s .state .now) in
     let agrees =
-    ap f (condition-there turn) ∙ sym (c .before .before .value .ensures) ∙ c .if1 .left ∙ sym (state-there turn) in (
+    ap f (condition-there turn) ∙ sym (valued .value .ensures) ∙ c .if1 .left ∙ sym (state-there turn) in (
       omega (arith, turn .loop-test .taken),
       turn .before .loop .inv .1,
       same-go f (take (endOf turn) (s .condition .now)) (take (endOf turn) (s .state .now)) (turn .before .loop .i) _
@@ -116,7 +122,7 @@ loop-again c =
 returns-2 : tie.Need-returns-2 Inv-loop μ-loop
 returns-2 c =
     let l = c .before .loop in
-    let s = c .before .before .before .before .before .args in
+    let s = entryOf (c .before .before) .args in
     let end = c .before .before .smaller .result in
     same-end (λ e. valueOf e (s .state .now)) (take end (s .condition .now)) (take end (s .state .now)) (l .i) _
     (l .inv .2)

@@ -1,5 +1,5 @@
--- `search_states::start_state` meets its contract. The invariant: the first i places hold the bytes of the start, the others
--- still 0.
+-- `search_states::start_state` meets its contract. The invariant: the first i places hold the bytes of the start, the
+-- others still 0.
 -- Assumes nothing.
 use mathlib.Core.Path.{_≡_, refl, sym}
 use Prim.Native.Nat.{_≤_, _<_, _-_}
@@ -18,12 +18,15 @@ Inv-loop start state₀ end i₀ state i =
 abbrev μ-loop : tie.MeasureT-loop
 μ-loop start state₀ end i₀ state i = end - i
 
+abbrev entryOf : tie.After-smaller Inv-loop μ-loop → tie.Start Inv-loop μ-loop
+entryOf c = c .before .before
+
 smaller-requires : tie.Need-smaller-requires Inv-loop μ-loop
 smaller-requires c κs = search needs
 
 loop-holds : tie.Need-loop-holds Inv-loop μ-loop
 loop-holds c =
-    (omega arith, omega (arith, c .smaller .ensures, length-take 16 (c .before .before .args .start .now)), refl)
+    (omega arith, omega (arith, c .smaller .ensures, length-take 16 (entryOf c .args .start .now)), refl)
 
 shared-slice-read-state : tie.Need-shared-slice-read-state Inv-loop μ-loop
 shared-slice-read-state c = search needs
@@ -41,7 +44,7 @@ loop-again : tie.Need-loop-again Inv-loop μ-loop
 loop-again c =
     let turn = c .before in
     let l = turn .before .loop in
-    let start = turn .before .before .before .before .args .start .now in
+    let start = entryOf (turn .before .before) .args .start .now in
     let near : l .i < 16 = omega (arith, turn .loop-test .taken, l .inv .1, length-take 16 start) in (
       omega (arith, turn .loop-test .taken),
       l .inv .1,
@@ -52,7 +55,7 @@ loop-again c =
 returns : tie.Need-returns Inv-loop μ-loop
 returns c =
     let l = c .before .loop in
-    let start = c .before .before .before .before .args .start .now in
+    let start = entryOf (c .before .before) .args .start .now in
     copied-padded 16 0 (take 16 start) (l .i) (l .state) (omega (arith, length-take 16 start))
     (omega (arith, c .loop-test .left, l .inv)) (l .inv .2)
 

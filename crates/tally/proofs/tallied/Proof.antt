@@ -10,7 +10,8 @@ use Rattle.tally.proofs.tallied.Statement.{statement}
 use Rattle.tally.proofs.tallied.Tie as tie
 
 -- the meaning follows from the equation
-told : (tally : Tally) (outcome steps : ℕ) (r : Tally) → r ≡ talliedOf tally outcome steps → (r ≡ talliedOf tally outcome steps) × TallyMeaning outcome steps tally r
+told : (tally : Tally) (outcome steps : ℕ) (r : Tally) → r ≡ talliedOf tally outcome steps
+    → (r ≡ talliedOf tally outcome steps) × TallyMeaning outcome steps tally r
 told tally outcome steps r e = (e, subst (TallyMeaning outcome steps tally) (sym e) (tally-meaning tally outcome steps))
 
 raised-if-requires : tie.Need-raised-if-requires
@@ -34,9 +35,18 @@ raised-requires c κs = search needs
 returns : tie.Need-returns
 unfolding talliedOf
 returns c =
-    let a = c .before .before .before .before .before .before .args in
+    let third = c .before .before .before in
+    let first = third .before .before in
+    let a = first .before .args in
     told (a .tally) (a .outcome) (a .steps) _
-    (simp (c .before .before .before .before .before .raised-if .ensures, c .before .before .before .before .raised-if2 .ensures, c .before .before .before .raised-if3 .ensures, c .before .before .is-refusal .ensures, c .before .raised-if4 .ensures, c .raised .ensures))
+    (simp (
+      first .raised-if .ensures,
+      third .before .raised-if2 .ensures,
+      third .raised-if3 .ensures,
+      c .before .before .is-refusal .ensures,
+      c .before .raised-if4 .ensures,
+      c .raised .ensures,
+    ))
 
 pub tallied-spec : {M : Type 1} → statement M
 tallied-spec =
