@@ -1,5 +1,6 @@
 -- `visits::visit_from` meets its contract, by a measure: each call of itself has one move less to come.
--- The invariant: what the rules from place k on make of the progress is what all rules make of the progress that the sequence itself leaves; and the longer plan lacks only its last move.
+-- The invariant: what the rules from place k on make of the progress is what all rules make of the progress that the
+-- sequence itself leaves; and the longer plan lacks only its last move.
 -- Assumes nothing.
 use mathlib.Core.Path.{_≡_, refl, sym, _∙_}
 use mathlib.Core.Logic.{⊎-elim}
@@ -58,15 +59,49 @@ calls t = (
 )
 
 abbrev Inv : lts.InvT-loop
-Inv conditions effects costs blocked goal limits state plan depth cost left carried₀ first end longer₀ prices k₀ carried longer k =
+Inv conditions effects costs blocked goal limits state plan depth _ left carried₀ _ _ _ _ _ carried longer k =
     (k ≤ limits .count)
-    × (restFrom conditions effects costs blocked goal limits (left - 1) (take depth plan) state k carried ≡ restFrom conditions effects costs blocked goal limits (left - 1) (take depth plan) state 0 carried₀)
+    × (restFrom conditions effects costs blocked goal limits (left - 1) (take depth plan) state k carried
+    ≡ restFrom conditions effects costs blocked goal limits (left - 1) (take depth plan) state 0 carried₀)
     × ((number : ℕ) → set longer depth number ≡ padded 32 noMove (take depth plan ++ (number ∷ [])))
 
 abbrev μ : lts.MeasureT-loop
-μ conditions effects costs blocked goal limits state plan depth cost left carried₀ first end longer₀ prices k₀ carried longer k = limits .count - k
+μ _ _ _ _ _ limits _ _ _ _ _ _ _ _ _ _ _ _ _ k = limits .count - k
 
 module _ (t : ℕ) where
+  -- the function's start, from where the sequence itself is noted; and both from the loop's head
+  abbrev startOf : lts.After-noted2 (calls t) (at t) visit-from.Post Inv μ
+      → lts.Start (calls t) (at t) visit-from.Post Inv μ
+  startOf n = n .before .before .before
+
+  abbrev placing : lts.At-loop (calls t) (at t) visit-from.Post Inv μ
+      → lts.After-first-place (calls t) (at t) visit-from.Post Inv μ
+  placing l = l .before .before .before
+
+  abbrev noting : lts.At-loop (calls t) (at t) visit-from.Post Inv μ
+      → lts.After-noted2 (calls t) (at t) visit-from.Post Inv μ
+  noting l = placing l .before .before .before
+
+  abbrev start : lts.At-loop (calls t) (at t) visit-from.Post Inv μ → lts.Start (calls t) (at t) visit-from.Post Inv μ
+  start l = startOf (noting l)
+
+  -- the loop's head, from a turn; the turn, from where its rule is tested and where it is taken; and where it is taken,
+  -- from where its state stands
+  abbrev headOf : lts.Then3 (calls t) (at t) visit-from.Post Inv μ → lts.At-loop (calls t) (at t) visit-from.Post Inv μ
+  headOf turn = turn .before .before
+
+  abbrev readOf : lts.After-goes-on-arg (calls t) (at t) visit-from.Post Inv μ
+      → lts.Then3 (calls t) (at t) visit-from.Post Inv μ
+  readOf c = c .before .before
+
+  abbrev turnOf : lts.After-goes-on (calls t) (at t) visit-from.Post Inv μ
+      → lts.Then3 (calls t) (at t) visit-from.Post Inv μ
+  turnOf c = readOf (c .before .before)
+
+  abbrev takenOf : lts.After-put-after (calls t) (at t) visit-from.Post Inv μ
+      → lts.Then4 (calls t) (at t) visit-from.Post Inv μ
+  takenOf c = c .before .before .before
+
   noted-requires : lts.Need-noted-requires (calls t) (at t) visit-from.Post Inv μ
   noted-requires c κs = search needs
 
@@ -82,11 +117,11 @@ module _ (t : ℕ) where
 
   -- the sequence itself is noted
   noted-first : (c : lts.After-noted2 (calls t) (at t) visit-from.Post Inv μ)
-      → let s = c .before .before .before in
+      → let s = startOf c in
       c .noted2 .result ≡ noted (s .args .goal .now) (s .args .limits .«step_limit») (s .args .cost)
       (take (s .args .depth) (s .args .plan .now)) (s .args .state .now) (s .args .progress)
   noted-first c =
-      let asked = c .before .before .before .pre .1 in
+      let asked = startOf c .pre .1 in
       noted-plan _ _ _ _ _ _ _ _ (asked .0 .goalLimit) (omega (arith, asked .1 .room)) (asked .1 .rest)
       (c .noted2 .ensures)
 
@@ -94,48 +129,45 @@ module _ (t : ℕ) where
   returns-2 c =
       let noted = c .before in
       whole-exceeded _ _ _ _ _ _ _ _ _ _ _ _ (noted .before .if1 .left)
-      (noted .before .before .before .pre .1 .1 .total) (noted-first noted) (c .if2 .taken)
+      (startOf noted .pre .1 .1 .total) (noted-first noted) (c .if2 .taken)
 
   cast-first-place : lts.Need-cast-first-place (calls t) (at t) visit-from.Post Inv μ
   cast-first-place c =
-      record { fits = omega (arith, c .before .before .before .before .before .pre .1 .0 .countLimits) }
+      record { fits = omega (arith, startOf (c .before .before) .pre .1 .0 .countLimits) }
 
   first-place-requires : lts.Need-first-place-requires (calls t) (at t) visit-from.Post Inv μ
   first-place-requires c κs = search needs
 
   loop-holds : lts.Need-loop-holds (calls t) (at t) visit-from.Post Inv μ
   loop-holds c =
-      let before = c .before .before .before .before .before .before in
-      let start = before .before .before in
-      (omega arith, refl, λ number. plan-more 32 noMove _ _ (start .pre .1 .1 .rest) number (omega (arith, start .pre .1 .1 .room, before .if1 .left)))
-
-  -- from the loop's head: where the sequence itself is noted, and the function's start
-  abbrev noting : lts.At-loop (calls t) (at t) visit-from.Post Inv μ
-      → lts.After-noted2 (calls t) (at t) visit-from.Post Inv μ
-  noting l = l .before .before .before .before .before .before
-
-  abbrev start : lts.At-loop (calls t) (at t) visit-from.Post Inv μ → lts.Start (calls t) (at t) visit-from.Post Inv μ
-  start l = noting l .before .before .before
+      let first = c .before .before in
+      let noted = first .before .before .before in
+      let reached = startOf noted .pre .1 .1 in (
+        omega arith,
+        refl,
+        λ number. plan-more 32 noMove _ _ (reached .rest) number
+            (omega (arith, reached .room, noted .before .if1 .left)),
+      )
 
   -- the place of the sequence with rule 1 behind it, and room for the other rules
   first : (l : lts.At-loop (calls t) (at t) visit-from.Post Inv μ)
       → let s = start l .args in
-      let place = l .before .before .before .first-place .result in
+      let place = placing l .first-place .result in
       let m = s .limits .count in
       (place ≡ indexOf m (last (s .limits .reach - 1) (take (s .depth) (s .plan .now))) * m + 1)
       × (place + m ≤ sequenceCount m (s .limits .reach))
   first l =
       let asked = start l .pre .1 in
       place-fits _ _ (take (start l .args .depth) (start l .args .plan .now)) _ (asked .0 .reachLimits .0)
-      (asked .0 .reachLimits .1) (asked .1 .rules) (l .before .before .before .first-place .ensures)
+      (asked .0 .reachLimits .1) (asked .1 .rules) (placing l .first-place .ensures)
 
   -- in the loop the plan has room for one more move
   deeper : (l : lts.At-loop (calls t) (at t) visit-from.Post Inv μ) → start l .args .depth < 32
   deeper l = omega (arith, start l .pre .1 .1 .room, noting l .before .if1 .left)
 
   -- a turn's place is one of the 31 rows
-  near : (c : lts.Then3 (calls t) (at t) visit-from.Post Inv μ) → c .before .before .loop .k < 31
-  near c = omega (arith, c .if3 .taken, start (c .before .before) .pre .1 .0 .countLimits)
+  near : (turn : lts.Then3 (calls t) (at t) visit-from.Post Inv μ) → headOf turn .loop .k < 31
+  near turn = omega (arith, turn .if3 .taken, start (headOf turn) .pre .1 .0 .countLimits)
 
   shared-slice-read-total : lts.Need-shared-slice-read-total (calls t) (at t) visit-from.Post Inv μ
   shared-slice-read-total c = omega (arith, near (c .before))
@@ -149,11 +181,12 @@ module _ (t : ℕ) where
       omega (arith, c .shared-slice-known2 .given (l .loop .k), start l .fits .cost)
 
   -- the place of the rule in the look-up is one of its places
-  placed : (c : lts.Then3 (calls t) (at t) visit-from.Post Inv μ) → c .before .before .before .before .before .first-place .result + c .before .before .loop .k < 30784
-  placed c =
-      let l = c .before .before in
+  placed : (turn : lts.Then3 (calls t) (at t) visit-from.Post Inv μ)
+      → placing (headOf turn) .first-place .result + headOf turn .loop .k < 30784
+  placed turn =
+      let l = headOf turn in
       let lent = start l .pre .1 .0 in
-      omega (arith, c .if3 .taken, first l .1, count-bound _ _ (lent .countLimits .1) (lent .reachLimits .1))
+      omega (arith, turn .if3 .taken, first l .1, count-bound _ _ (lent .countLimits .1) (lent .reachLimits .1))
 
   add-goes-on : lts.Need-add-goes-on (calls t) (at t) visit-from.Post Inv μ
   add-goes-on c = omega (arith, placed (c .before))
@@ -162,52 +195,52 @@ module _ (t : ℕ) where
   element-copy-out-goes-on c = omega (arith, placed (c .before))
 
   mul-goes-on : lts.Need-mul-goes-on (calls t) (at t) visit-from.Post Inv μ
-  mul-goes-on c = omega (arith, near (c .before .before))
+  mul-goes-on c = omega (arith, near (readOf c))
 
   index-1-goes-on : lts.Need-index-1-goes-on (calls t) (at t) visit-from.Post Inv μ
-  index-1-goes-on c = omega (arith, near (c .before .before))
+  index-1-goes-on c = omega (arith, near (readOf c))
 
   goes-on-requires : lts.Need-goes-on-requires (calls t) (at t) visit-from.Post Inv μ
   goes-on-requires c κs = search needs
 
   mul-put-after : lts.Need-mul-put-after (calls t) (at t) visit-from.Post Inv μ
-  mul-put-after c = omega (arith, near (c .before .before .before .before .before))
+  mul-put-after c = omega (arith, near (turnOf (c .before)))
 
   index-1-put-after : lts.Need-index-1-put-after (calls t) (at t) visit-from.Post Inv μ
-  index-1-put-after c = omega (arith, near (c .before .before .before .before .before))
+  index-1-put-after c = omega (arith, near (turnOf (c .before)))
 
   put-after-requires : lts.Need-put-after-requires (calls t) (at t) visit-from.Post Inv μ
   put-after-requires c κs = search needs
 
   cast-longer : lts.Need-cast-longer (calls t) (at t) visit-from.Post Inv μ
-  cast-longer c = omega (arith, near (c .before .before .before .before .before .before .before .before))
+  cast-longer c = omega (arith, near (turnOf (takenOf c .before)))
 
   add-longer : lts.Need-add-longer (calls t) (at t) visit-from.Post Inv μ
-  add-longer c = omega (arith, near (c .before .before .before .before .before .before .before .before))
+  add-longer c = omega (arith, near (turnOf (takenOf c .before)))
 
   array-write-longer : lts.Need-array-write-longer (calls t) (at t) visit-from.Post Inv μ
-  array-write-longer c = omega (arith, deeper (c .before .before .before .before .before .before .before .before .before .before))
+  array-write-longer c = omega (arith, deeper (headOf (turnOf (takenOf c .before))))
 
   add-visit-from : lts.Need-add-visit-from (calls t) (at t) visit-from.Post Inv μ
-  add-visit-from c = omega (arith, deeper (c .before .before .before .before .before .before .before .before .before .before .before .before))
+  add-visit-from c = omega (arith, deeper (headOf (turnOf (takenOf (c .before .before) .before))))
 
   cast-visit-from : lts.Need-cast-visit-from (calls t) (at t) visit-from.Post Inv μ
   cast-visit-from c =
-      let went = c .before .before .before .before .before in
+      let went = takenOf (c .before .before) in
       record {
         fits = goes-cheap _ _ _ _ _ _ (went .before .goes-on .ensures) (went .if4 .taken)
-            (went .before .before .before .before .before .before .struct-known2 .given .1 .1 .1 .0 .fits);
+            (turnOf (went .before) .before .struct-known2 .given .1 .1 .1 .0 .fits);
       }
 
   sub-visit-from : lts.Need-sub-visit-from (calls t) (at t) visit-from.Post Inv μ
   sub-visit-from c =
-      let turn = c .before .before .before .before .before .before .before .before .before .before in
-      omega (arith, noting (turn .before .before) .before .if1 .left)
+      let turn = turnOf (takenOf (c .before .before) .before) in
+      omega (arith, noting (headOf turn) .before .if1 .left)
 
   visit-from-requires : lts.Need-visit-from-requires (calls t) (at t) visit-from.Post Inv μ
   visit-from-requires c κs =
-      let turn = c .before .before .before .before .before .before .before .before .before .before in
-      let l = turn .before .before in
+      let turn = turnOf (takenOf (c .before .before) .before) in
+      let l = headOf turn in
       let pre = start l .pre in
       let lent = pre .1 .0 in
       let reached = pre .1 .1 in
@@ -221,15 +254,15 @@ module _ (t : ℕ) where
       )
 
   add-k : lts.Need-add-k (calls t) (at t) visit-from.Post Inv μ
-  add-k c = omega (arith, near (c .before .before .before .before .before))
+  add-k c = omega (arith, near (turnOf (c .before)))
 
   loop-less : lts.Need-loop-less (calls t) (at t) visit-from.Post Inv μ
   loop-less c = omega arith
 
   loop-again : lts.Need-loop-again (calls t) (at t) visit-from.Post Inv μ
   loop-again c =
-      let turn = c .before .before .before .before .before in
-      let l = turn .before .before in
+      let turn = turnOf (c .before) in
+      let l = headOf turn in
       let asked = start l .pre .1 in
       ⊎-elim
       (λ w. (
@@ -238,7 +271,8 @@ module _ (t : ℕ) where
             (turn .if3 .taken) (l .loop .inv .1) (asked .0) (asked .1 .stateEnd) _
             (c .before .goes-on .ensures) (w .0 .taken) _ (plan-next _ _ _ _ _ _ _ (asked .1) _ _ (l .loop .inv .2 _)) _
             (w .3 .ensures) (w .6 .result) _ (w .7) (w .6 .ensures),
-        λ number. rw (w .8) (set-set (l .loop .longer) (start l .args .depth) (l .loop .k + 1) number ∙ l .loop .inv .2 number),
+        λ number. rw (w .8)
+            (set-set (l .loop .longer) (start l .args .depth) (l .loop .k + 1) number ∙ l .loop .inv .2 number),
       ))
       (λ w. (
         omega (arith, turn .if3 .taken),
