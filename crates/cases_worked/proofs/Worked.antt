@@ -6,6 +6,7 @@ use mathlib.Core.Path.{_≡_, refl}
 use mathlib.Core.Option.{Option}
 use mathlib.Core.List.{List, [], _∷_, _++_, map}
 use lib.ListN.{replicate}
+use Rattle.theory_spec.specs.Sequences.{Sequence}
 use Rattle.model_spec.specs.States.{valueOf, valuesOf, applicable, successor, width, states}
 use Rattle.model_spec.specs.Rules.{ruleAt, stepOf, ruleCost, statesOf, runIn, sequenceCost, admitted, redundant}
 use Rattle.model_spec.specs.Validity.{entryLimited, conditionPlaced, effectPlaced, conditionValid, effectValid, sizeValid, sizesValid, ruleValid, ruleBlank, ruleValidAt, rulesValid, duplicate, repeated, hasDuplicates, wellFormed, valid}
@@ -15,7 +16,8 @@ use Rattle.files_spec.specs.Reading.{literal, digits, isNumber, decimal, number
 use Rattle.macros_spec.specs.Composition.{Lines, ownVariables, emptyLines, replaced, clash, equated, unified, followed, extended, composedFrom, composed}
 use Rattle.macros_spec.specs.Answers.{macroCauses, macroAnswer}
 use Rattle.macros_spec.specs.declared.MacroAnswer.{MacroAnswer}
-use Rattle.tables_spec.specs.Table.{tableEntries, sequenceAt, entryAt, marked, builtEntry, builtTable, entryJustified, accepted}
+use Rattle.tables_spec.specs.Table.{tableEntries, sequenceAt, kept, entryAt, marked, builtEntry, builtTable}
+use Rattle.tables_spec.specs.Table.{entryJustified, accepted}
 use Rattle.tables_spec.specs.Answers.{tableCauses, buildOutcome, builtBuffer, checkCauses, checkOutcome}
 use Rattle.search_spec.specs.Query.{Query, startFits, goalFits, meetsGoal, visitedBy, plansFor}
 use Rattle.search_spec.specs.Searched.{Searched, queryCauses, cheapestPlan, searchCauses, shownPlan, searchedWith, searched}
@@ -52,16 +54,18 @@ pub data Question : Type 0 where
   compose : RuleSet → List ℕ → Question
   build : RuleSet → ℕ → ℕ → Question
   check : RuleSet → ℕ → List ℕ → Question
+  look : RuleSet → ℕ → List ℕ → ℕ → Question
   list : String → Question
   enter : String → Query → ℕ → Question
 
--- the whole answer, with the buffer that the call leaves
+-- the whole answer, with the buffer that the call leaves; of an index its sequence and its entry in the table
 pub data Reply : Type 0 where
   finds : Searched → Reply
   composes : MacroAnswer → Reply
   vectors : Option Lines → Reply
   builds : ℕ → List ℕ → Reply
   checks : ℕ → Reply
+  shows : Sequence → ℕ → Reply
   lists : List ℕ → Reply
   packs : ℕ → List ℕ → Reply
 
@@ -71,6 +75,7 @@ reply (macroOf set moves) = composes (macroAnswer set moves)
 reply (compose set moves) = vectors (composed set moves)
 reply (build set reach size) = builds (buildOutcome set reach size) (builtBuffer set reach size)
 reply (check set reach table) = checks (checkOutcome set reach table)
+reply (look set reach table index) = shows (sequenceAt set reach index) (entryAt table index)
 reply (list file) = lists (listing (bytes file))
 reply (enter file query room) =
     packs (packedSearch (bytes file) query room) (searchedText (bytes file) query room .plan)
@@ -140,12 +145,17 @@ rows =
     ∷ record { asked = macroOf H (1 ∷ 2 ∷ []); expected = lines (0 ∷ 0 ∷ 0 ∷ []) (2 ∷ 0 ∷ 0 ∷ []) 2 }
     -- P7: `0,x2,x2` to `2,x2,0`
     ∷ record { asked = macroOf H (1 ∷ 3 ∷ []); expected = lines (0 ∷ 17 ∷ 17 ∷ []) (2 ∷ 17 ∷ 0 ∷ []) 2 }
-    -- P8
+    -- P8: (1,2) is kept, and (3,4) is marked with the index of (2,4)
     ∷ record { asked = build H 2 42; expected = builds 0 tableH }
+    ∷ record { asked = look H 2 (builtTable H 2) 6; expected = shows (1 ∷ 2 ∷ []) kept }
+    ∷ record { asked = look H 2 (builtTable H 2) 16; expected = shows (3 ∷ 4 ∷ []) 12 }
+    ∷ record { asked = look H 2 (builtTable H 2) 12; expected = shows (2 ∷ 4 ∷ []) kept }
     -- P9
     ∷ record { asked = ofH (builtTable H 2) 3; expected = told 0 3 3 5 (1 ∷ 2 ∷ 4 ∷ []) }
     ∷ record { asked = ofH (builtTable H 2) 5; expected = told 0 3 3 5 (1 ∷ 2 ∷ 4 ∷ 255 ∷ 255 ∷ []) }
-    -- P10
+    -- P10: (1,2) is marked with the index of (1,3)
+    ∷ record { asked = look H 2 table10 6; expected = shows (1 ∷ 2 ∷ []) 7 }
+    ∷ record { asked = look H 2 table10 7; expected = shows (1 ∷ 3 ∷ []) kept }
     ∷ record { asked = check H 2 table10; expected = checks 14 }
     ∷ record { asked = ofH table10 3; expected = told 14 0 0 0 (255 ∷ 255 ∷ 255 ∷ []) }
     ∷ record { asked = ofH table10 5; expected = told 14 0 0 0 (255 ∷ 255 ∷ 255 ∷ 255 ∷ 255 ∷ []) }
