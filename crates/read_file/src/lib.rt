@@ -2,11 +2,12 @@
 use blanks::blank_rule;
 use blanks::empty_set;
 use model_spec::RuleSet;
+use read_lines::list_line;
 use read_lines::number_line;
-use read_lines::sizes_line;
 use read_rule::rule_lines;
 use reader_laws::FoundRules;
 use reader_laws::FoundSet;
+use reader_laws::Line;
 ghost use mathlib.Core.Path.{_≡_};
 ghost use Prim.Native.Nat.{_≤_};
 ghost use lib.ListN.{drop};
@@ -68,7 +69,17 @@ pub fn file_lines(text: &[u8]) -> FoundSet
     if first != 0 {
         return no_set(first);
     }
-    let line = sizes_line(text, positions.next, positions.value);
+    // a size is judged by no other line
+    let none = [0u8; 16];
+    let line = list_line(
+        text,
+        positions.next,
+        b"sizes=",
+        Line::Sizes,
+        positions.value,
+        &none,
+        &none,
+    );
     let second = line.outcome;
     if second != 0 {
         return no_set(second);

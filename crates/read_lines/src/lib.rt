@@ -1,16 +1,18 @@
-// Lines of a rule file, each read at a place of the text: a line with a key and one number, and the line of the sizes.
+// Lines of a rule file, each read at a place of the text: a key, and one number or a list of items.
 use bounded::at_most;
+use read_entries::condition_item;
+use read_entries::effect_item;
 use read_items::number_within;
 use read_items::word;
 use reader_laws::Found;
 use reader_laws::FoundLine;
+use reader_laws::Line;
 use separators::ending;
 ghost use mathlib.Core.Path.{_≡_};
-ghost use Prim.Native.Nat.{min};
-ghost use lib.ListN.{drop};
-ghost use Rattle.files_spec.specs.Reading.{sizeItem, listLine};
+ghost use Prim.Native.Nat.{_≤_, _<_, min};
+ghost use lib.ListN.{take, drop};
 ghost use Rattle.reader_laws.specs.how.Found.{found};
-ghost use Rattle.reader_laws.specs.how.Parts.{keyedNumber};
+ghost use Rattle.reader_laws.specs.how.Parts.{keyedNumber, keyedList, itemOf};
 
 // A line with a key and one number.
 pub fn number_line(text: &[u8], at: usize, key: &[u8], least: u8, most: u8) -> Found
@@ -26,17 +28,53 @@ pub fn number_line(text: &[u8], at: usize, key: &[u8], least: u8, most: u8) -> F
     number_within(text, start.next, least, most, b'\n')
 }
 
-// The line of the sizes, at most sixteen.
-pub fn sizes_line(text: &[u8], at: usize, positions: u8) -> FoundLine
+// An item of a line that lists them, at place i after those before it.
+fn list_item(
+    text: &[u8],
+    at: usize,
+    line: Line,
+    positions: u8,
+    sizes: &[u8; 16],
+    condition: &[u8; 16],
+    before: [u8; 16],
+    i: usize,
+    end: u8,
+) -> Found
+    requires { ⌜ (positions ≤ 16) × (i < 16) ⌝ }
     ensures { λ r. ⌜
-        listLine "sizes=" sizeItem (min positions 16) (drop at (now (text .entry)))
-        ≡ found (r .outcome) (r .entries) (r .next) (now (text .entry)) ⌝ }
+        itemOf line positions (now (sizes .entry)) (now (condition .entry)) (take i before) end
+        (drop at (now (text .entry)))
+        ≡ found (r .outcome) (r .value) (r .next) (now (text .entry)) ⌝ }
 {
-    let count = at_most(positions, 16) as usize;
-    let key = word(text, at, b"sizes=");
-    let outcome = key.outcome;
+    match line {
+        Line::Sizes => number_within(text, at, 2, 16, end),
+        Line::Condition => condition_item(text, at, positions, sizes, before, i, end),
+        Line::Effect => effect_item(text, at, positions, sizes, condition, i, end),
+    }
+}
+
+// A line with a key and a list of items, one for each position, at most sixteen.
+pub fn list_line(
+    text: &[u8],
+    at: usize,
+    key: &[u8],
+    line: Line,
+    positions: u8,
+    sizes: &[u8; 16],
+    condition: &[u8; 16],
+) -> FoundLine
+    ensures { λ r. ⌜
+        (let count = min positions 16 in
+        keyedList (now (key .entry)) (itemOf line count (now (sizes .entry)) (now (condition .entry))) count
+        (drop at (now (text .entry)))
+        ≡ found (r .outcome) (r .entries) (r .next) (now (text .entry))) ⌝ }
+{
+    let held = at_most(positions, 16);
+    let count = held as usize;
+    let start = word(text, at, key);
+    let outcome = start.outcome;
     let mut entries = [0u8; 16];
-    let mut next = key.next;
+    let mut next = start.next;
     if outcome != 0 {
         return FoundLine {
             outcome,
@@ -46,7 +84,17 @@ pub fn sizes_line(text: &[u8], at: usize, positions: u8) -> FoundLine
     }
     let mut i: usize = 0;
     while i < count {
-        let item = number_within(text, next, 2, 16, ending(count - 1 - i));
+        let item = list_item(
+            text,
+            next,
+            line,
+            held,
+            sizes,
+            condition,
+            entries,
+            i,
+            ending(count - 1 - i),
+        );
         let fault = item.outcome;
         if fault != 0 {
             return FoundLine {

@@ -2,7 +2,15 @@
 use model_spec::Rule;
 use model_spec::RuleSet;
 
-// What the functions of the reader find at a place of the text: a refusal's number, or with outcome 0 a value and the place after it.
+// The lines that list an item for each position.
+pub enum Line {
+    Sizes,
+    Condition,
+    Effect,
+}
+
+// What the functions of the reader find at a place of the text: a refusal's number,
+// or with outcome 0 a value and the place after it.
 
 // A number as it is written, before its limit is judged.
 pub struct FoundNumber {

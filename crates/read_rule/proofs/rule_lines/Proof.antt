@@ -2,14 +2,11 @@
 -- Assumes nothing.
 use mathlib.Core.Path.{_∙_}
 use borrow.Author.Needs.{needs}
-use Rattle.files_spec.specs.Reading.{numberLine, ruleLines}
-use Rattle.reader_laws.specs.how.Parts.{keyedNumber}
+use Rattle.files_spec.specs.Reading.{numberLine, listLine, ruleLines}
+use Rattle.reader_laws.specs.how.Parts.{keyedNumber, keyedList, itemOf}
 use Rattle.reader_laws.proofs.FoundLaws.{parsed-found, then-refused, then-parsed}
 use Rattle.read_rule.proofs.rule_lines.Statement.{statement}
 use Rattle.read_rule.proofs.rule_lines.Tie as tie
-
-at-most-requires : tie.Need-at-most-requires
-at-most-requires c κs = search needs
 
 slice-aggregate-number-line : tie.Need-slice-aggregate-number-line
 slice-aggregate-number-line c = search needs
@@ -26,63 +23,80 @@ returns c =
     rw (c .no-rule .ensures)
     (then-refused _ _ _ _ _ _ (c .before .before .number-line .ensures) (c .before .if1 .taken))
 
-condition-line-requires : tie.Need-condition-line-requires
-condition-line-requires c κs = search needs
+slice-aggregate-list-line : tie.Need-slice-aggregate-list-line
+slice-aggregate-list-line c = search needs
+
+list-line-requires : tie.Need-list-line-requires
+list-line-requires c κs = search needs
 
 no-rule-requires-2 : tie.Need-no-rule-requires-2
 no-rule-requires-2 c κs = search needs
 
+-- the cost, before the `if` line was read
+abbrev costOf : tie.After-list-line → tie.Else1
+costOf c = c .before .before
+
 returns-2 : tie.Need-returns-2
-unfolding ruleLines numberLine keyedNumber
+unfolding ruleLines numberLine keyedNumber listLine keyedList itemOf
 returns-2 c =
     let condition = c .before .before in
-    let cost = condition .before .before in
-    rw (← cost .before .before .at-most .ensures, c .no-rule2 .ensures)
-    (then-parsed _ _ _ _ (cost .number-line .ensures) (condition .before .if1 .left)
-    ∙ then-refused _ _ _ _ _ _ (condition .condition-line .ensures) (c .before .if2 .taken))
+    let cost = costOf condition in
+    rw (c .no-rule2 .ensures)
+    (then-parsed _ _ _ _ (cost .before .number-line .ensures) (cost .if1 .left)
+    ∙ then-refused _ _ _ _ _ _ (condition .list-line .ensures) (c .before .if2 .taken))
 
-effect-line-requires : tie.Need-effect-line-requires
-effect-line-requires c κs = search needs
+slice-aggregate-list-line-2 : tie.Need-slice-aggregate-list-line-2
+slice-aggregate-list-line-2 c = search needs
+
+list-line-requires-2 : tie.Need-list-line-requires-2
+list-line-requires-2 c κs = search needs
 
 no-rule-requires-3 : tie.Need-no-rule-requires-3
 no-rule-requires-3 c κs = search needs
 
+-- the condition, before the `then` line was read
+abbrev argOf : tie.After-list-line2 → tie.After-list-line-arg2
+argOf c = c .before .before
+
+abbrev conditionOf : tie.After-list-line2 → tie.Else2
+conditionOf c = argOf c .before .before
+
 returns-3 : tie.Need-returns-3
-unfolding ruleLines numberLine keyedNumber
+unfolding ruleLines numberLine keyedNumber listLine keyedList itemOf
 returns-3 c =
     let effect = c .before .before in
-    let condition = effect .before .before .before .before in
-    let cost = condition .before .before in
-    rw (← cost .before .before .at-most .ensures, c .no-rule3 .ensures)
-    (then-parsed _ _ _ _ (cost .number-line .ensures) (condition .before .if1 .left)
-    ∙ then-parsed _ _ _ _ (condition .condition-line .ensures) (effect .before .before .before .if2 .left)
-    ∙ then-refused _ _ _ _ _ _ (effect .effect-line .ensures) (c .before .if3 .taken))
+    let condition = conditionOf effect in
+    let cost = costOf (condition .before) in
+    rw (c .no-rule3 .ensures)
+    (then-parsed _ _ _ _ (cost .before .number-line .ensures) (cost .if1 .left)
+    ∙ then-parsed _ _ _ _ (condition .before .list-line .ensures) (condition .if2 .left)
+    ∙ then-refused _ _ _ _ _ _ (effect .list-line2 .ensures) (c .before .if3 .taken))
 
 returns-4 : tie.Need-returns-4
-unfolding ruleLines numberLine keyedNumber
+unfolding ruleLines numberLine keyedNumber listLine keyedList itemOf
 returns-4 c =
     let effect = c .before .before in
-    let condition = effect .before .before .before .before in
-    let cost = condition .before .before in
-    rw (← cost .before .before .at-most .ensures)
-    (parsed-found _ _ _
-    (then-parsed _ _ _ _ (cost .number-line .ensures) (condition .before .if1 .left)
-    ∙ then-parsed _ _ _ _ (condition .condition-line .ensures) (effect .before .before .before .if2 .left)
-    ∙ then-parsed _ _ _ _ (effect .effect-line .ensures) (c .before .if3 .left)))
+    let condition = conditionOf effect in
+    let cost = costOf (condition .before) in
+    parsed-found _ _ _
+    (then-parsed _ _ _ _ (cost .before .number-line .ensures) (cost .if1 .left)
+    ∙ then-parsed _ _ _ _ (condition .before .list-line .ensures) (condition .if2 .left)
+    ∙ then-parsed _ _ _ _ (effect .list-line2 .ensures) (c .before .if3 .left))
 
 pub rule-lines-spec : {M : Type 1} → statement M
 rule-lines-spec =
     tie.close
     (tie.spec
-    at-most-requires
     slice-aggregate-number-line
     number-line-requires
     no-rule-requires
     returns
-    condition-line-requires
+    slice-aggregate-list-line
+    list-line-requires
     no-rule-requires-2
     returns-2
-    effect-line-requires
+    slice-aggregate-list-line-2
+    list-line-requires-2
     no-rule-requires-3
     returns-3
     returns-4)
