@@ -63,12 +63,12 @@ fn entry(text: &[u8], at: usize, positions: u8, sizes: &[u8; 16], i: usize, endi
 }
 
 // The entries with another at place i, as they were where i is no place.
-fn with_entry(entries: [u8; 16], i: usize, entry: u8) -> [u8; 16]
-    ensures { λ r. ⌜ r ≡ set entries i entry ⌝ }
+fn with_entry(entries: [u8; 16], i: usize, value: u8) -> [u8; 16]
+    ensures { λ r. ⌜ r ≡ set entries i value ⌝ }
 {
     let mut changed = entries;
     if i < 16 {
-        changed[i] = entry;
+        changed[i] = value;
     }
     changed
 }

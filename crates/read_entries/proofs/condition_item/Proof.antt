@@ -31,21 +31,25 @@ with-entry-requires c κs = search needs
 condition-placed-requires : tie.Need-condition-placed-requires
 condition-placed-requires c κs = search needs
 
+-- where the entry is in the array, from where it was judged
+abbrev arrayOf : tie.After-condition-placed → tie.After-with-entry
+arrayOf c = c .before .before
+
 returns-2 : tie.Need-returns-2
 unfolding conditionEntry
 returns-2 c =
-    let branch = c .before .before .before .before in
-    let e = branch .before in
-    entry-misplaced (placed e) _ _ (e .before .before .args .text .now) (e .entry .ensures) _ _ (branch .if1 .left)
-    (rw (c .before .before .before .with-entry .ensures) at (c .before .condition-placed .ensures)) (c .if2 .taken)
+    let array = arrayOf (c .before) in
+    let e = array .before .before in
+    entry-misplaced (placed e) _ _ (e .before .before .args .text .now) (e .entry .ensures) _ _ (array .before .if1 .left)
+    (rw (array .with-entry .ensures) at (c .before .condition-placed .ensures)) (c .if2 .taken)
 
 returns-3 : tie.Need-returns-3
 unfolding conditionEntry
 returns-3 c =
-    let branch = c .before .before .before .before in
-    let e = branch .before in
-    entry-placed (placed e) _ _ (e .before .before .args .text .now) (e .entry .ensures) (branch .if1 .left)
-    (rw (c .before .before .before .with-entry .ensures) at (c .before .condition-placed .ensures)) (c .if2 .left)
+    let array = arrayOf (c .before) in
+    let e = array .before .before in
+    entry-placed (placed e) _ _ (e .before .before .args .text .now) (e .entry .ensures) (array .before .if1 .left)
+    (rw (array .with-entry .ensures) at (c .before .condition-placed .ensures)) (c .if2 .left)
 
 pub condition-item-spec : {M : Type 1} → statement M
 condition-item-spec =

@@ -41,16 +41,22 @@ add-variable c = search needs
 variable-requires : tie.Need-variable-requires
 variable-requires c κs = search needs
 
+abbrev startOf : tie.After-places → tie.Start
+startOf c = c .before .before
+
 returns : tie.Need-returns
 returns c =
-    let s = c .before .before .before .before .before .before .args in
+    let inside = c .before .before .before in
+    let s = startOf (inside .before) .args in
     lettered (min (s .positions) 16) (s .sizes .now) (s .i) (s .ending) (s .text .now) (s .at) (c .before .if2 .taken)
     ∙ c .variable .ensures
 
 -- where no variable was read there is no letter
-no-letter : (c : tie.Joined1) → let s = c .before .before .before .args in getD (s .text .now) (s .at) 0 ≢ variableLetter
+no-letter : (c : tie.Joined1)
+    → let s = startOf (c .before) .args in
+    getD (s .text .now) (s .at) 0 ≢ variableLetter
 no-letter c =
-    let s = c .before .before .before .args in
+    let s = startOf (c .before) .args in
     ⊎-elim (λ w. w .2 .left) (λ w e. omega (arith, List·getD-eq-default (s .text .now) 0 {n = s .at} (w .left)))
     (c .if1 .came)
 
@@ -62,9 +68,9 @@ constant-requires c κs = search needs
 
 returns-2 : tie.Need-returns-2
 returns-2 c =
-    let s = c .before .before .before .before .before .before .args in
-    unlettered (min (s .positions) 16) (s .sizes .now) (s .i) (s .ending) (s .text .now) (s .at)
-    (no-letter (c .before .before .before))
+    let joined = c .before .before .before in
+    let s = startOf (joined .before) .args in
+    unlettered (min (s .positions) 16) (s .sizes .now) (s .i) (s .ending) (s .text .now) (s .at) (no-letter joined)
     ∙ c .constant .ensures
 
 constant-requires-2 : tie.Need-constant-requires-2
@@ -72,9 +78,9 @@ constant-requires-2 c κs = search needs
 
 returns-3 : tie.Need-returns-3
 returns-3 c =
-    let s = c .before .before .before .before .before .args in
-    unlettered (min (s .positions) 16) (s .sizes .now) (s .i) (s .ending) (s .text .now) (s .at)
-    (no-letter (c .before .before))
+    let joined = c .before .before in
+    let s = startOf (joined .before) .args in
+    unlettered (min (s .positions) 16) (s .sizes .now) (s .i) (s .ending) (s .text .now) (s .at) (no-letter joined)
     ∙ rw (List·getD-eq-default (s .sizes .now) 0 {n = s .i} (omega arith)) (c .constant2 .ensures)
 
 pub entry-spec : {M : Type 1} → statement M

@@ -19,9 +19,12 @@ at-most-requires c κs = search needs
 number-within-requires : tie.Need-number-within-requires
 number-within-requires c κs = search needs
 
+abbrev startOf : tie.After-number-within → tie.Start
+startOf c = c .before .before .before
+
 -- the number of the position was read, from 1 to the smaller of the positions and 16
 position-read : (c : tie.After-number-within)
-    → let s = c .before .before .before .args in
+    → let s = startOf c .args in
     let n = c .number-within .result in
     numberWithin 1 (min (s .positions) 16) (s .ending) (drop (s .at) (s .text .now))
     ≡ found (n .outcome) (n .value) (n .next) (s .text .now)
@@ -30,13 +33,13 @@ position-read c = rw (c .before .at-most .ensures) at (c .number-within .ensures
 returns : tie.Need-returns
 unfolding variable
 returns c =
-    then-refused _ _ (c .before .before .before .before .args .text .now) (λ j rest. parsed (15 + j) rest) _ _
+    then-refused _ _ (startOf (c .before) .args .text .now) (λ j rest. parsed (15 + j) rest) _ _
     (position-read (c .before)) (c .if1 .taken)
 
 add-t8 : tie.Need-add-t8
 unfolding numberWithin
 add-t8 c =
-    let s = c .before .before .before .before .args in
+    let s = startOf (c .before) .args in
     let n = c .before .number-within .result in
     let most = min (s .positions) 16 in
     let passed = unless-value (number (s .ending) (drop (s .at) (s .text .now))) (n .value) _ (s .text .now) 2
@@ -46,7 +49,7 @@ add-t8 c =
 returns-2 : tie.Need-returns-2
 unfolding variable
 returns-2 c =
-    let text = c .before .before .before .before .args .text .now in
+    let text = startOf (c .before) .args .text .now in
     parsed-found _ _ text
     (then-parsed _ _ text (λ j rest. parsed (15 + j) rest) (position-read (c .before)) (c .if1 .left))
 

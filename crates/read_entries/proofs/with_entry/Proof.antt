@@ -16,7 +16,7 @@ returns c = search needs
 returns-2 : tie.Need-returns-2
 returns-2 c =
     let a = c .before .args in
-    sym (set-out (a .entries) (a .i) (a .entry) (omega (arith, c .before .good .0, c .if1 .left)))
+    sym (set-out (a .entries) (a .i) (a .value) (omega (arith, c .before .good .0, c .if1 .left)))
 
 pub with-entry-spec : {M : Type 1} → statement M
 with-entry-spec = tie.close (tie.spec array-write-changed returns returns-2)

@@ -7,7 +7,8 @@ use native.Mathlib.Omega.{arith}
 use lib.ListN.{drop}
 use borrow.Author.Needs.{needs}
 use Rattle.model_spec.specs.Rules.{blankRule}
-use Rattle.files_spec.specs.Reading.{rulesAfter, ruleList}
+use Rattle.files_spec.specs.Reading.{ruleLines, rulesAfter, ruleList}
+use Rattle.reader_laws.specs.how.Found.{found}
 use Rattle.reader_laws.proofs.ReadLoopLaws.{SoFar, rules-list, fill-start, fill-go, fill-stop, fill-end}
 use Rattle.read_file.proofs.rule_list.Statement.{statement}
 use Rattle.read_file.proofs.rule_list.Tie as tie
@@ -33,14 +34,24 @@ loop-holds c =
 rule-lines-requires : tie.Need-rule-lines-requires Inv-loop μ-loop
 rule-lines-requires c κs = search needs
 
+abbrev startOf : tie.At-loop Inv-loop μ-loop → tie.Start Inv-loop μ-loop
+startOf c = c .before .before .before
+
+-- a rule's lines are read as they are
+rule-read : (c : tie.After-rule-lines Inv-loop μ-loop)
+    → let a = startOf (c .before .before) .args in
+    let r = c .rule-lines .result in
+    ruleLines (a .positions) (a .sizes .now) (drop (c .before .before .loop .next) (a .text .now))
+    ≡ found (r .outcome) (r .rule) (r .next) (a .text .now)
+rule-read c =
+    let start = startOf (c .before .before) in
+    let m : min (start .args .positions) 16 ≡ start .args .positions = omega (arith, start .pre .0) in
+    rw m at (c .rule-lines .ensures)
+
 returns : tie.Need-returns Inv-loop μ-loop
 returns c =
-    let t = c .before .before .before in
-    let start = t .before .before .before in
-    let a = start .args in
-    let m : min (a .positions) 16 ≡ a .positions = omega (arith, start .pre .0) in
-    fill-stop (rules-list (a .positions) (a .sizes .now)) (t .loop .inv) _ _ _ _ (c .before .before .loop-test .taken)
-    (rw m at (c .before .rule-lines .ensures)) (c .if1 .taken)
+    let t = c .before .before in
+    fill-stop (rules-list _ _) (t .before .loop .inv) _ _ _ _ (t .loop-test .taken) (rule-read (c .before)) (c .if1 .taken)
 
 mul-rules : tie.Need-mul-rules Inv-loop μ-loop
 mul-rules c = search needs
@@ -56,17 +67,12 @@ loop-less c = search needs
 
 loop-again : tie.Need-loop-again Inv-loop μ-loop
 loop-again c =
-    let t = c .before .before .before .before in
-    let start = t .before .before .before in
-    let a = start .args in
-    let m : min (a .positions) 16 ≡ a .positions = omega (arith, start .pre .0) in
-    fill-go (rules-list (a .positions) (a .sizes .now)) (t .loop .inv) _ _ (c .before .before .before .loop-test .taken)
-    (rw m at (c .before .before .rule-lines .ensures)) (c .before .if1 .left)
+    let t = c .before .before .before in
+    fill-go (rules-list _ _) (t .before .loop .inv) _ _ (t .loop-test .taken) (rule-read (c .before .before))
+    (c .before .if1 .left)
 
 returns-2 : tie.Need-returns-2 Inv-loop μ-loop
-returns-2 c =
-    let a = c .before .before .before .before .args in
-    fill-end (rules-list (a .positions) (a .sizes .now)) (c .before .loop .inv) (c .loop-test .left)
+returns-2 c = fill-end (rules-list _ _) (c .before .loop .inv) (c .loop-test .left)
 
 pub rule-list-spec : {M : Type 1} → statement M
 rule-list-spec =

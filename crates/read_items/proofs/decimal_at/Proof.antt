@@ -26,14 +26,18 @@ two-digits (suc (suc (suc i))) h = absurd (omega arith)
 
 abbrev Inv-loop : tie.InvT-loop
 Inv-loop text at count n₀ i₀ n i =
-    (i ≤ count) × (n ≤ largest i) × (length (digits (drop (at + i) text)) ≡ count - i) × (decimalFrom n (digits (drop (at + i) text)) ≡ decimal (digits (drop at text)))
+    (i ≤ count) × (n ≤ largest i)
+    × (length (digits (drop (at + i) text)) ≡ count - i)
+    × (decimalFrom n (digits (drop (at + i) text)) ≡ decimal (digits (drop at text)))
 
 abbrev μ-loop : tie.MeasureT-loop
 μ-loop text at count n₀ i₀ n i = count - i
 
 loop-holds : tie.Need-loop-holds Inv-loop μ-loop
 unfolding decimal
-loop-holds c = let z : c .args .at + 0 ≡ c .args .at = omega arith in (search needs, omega arith, rw z (omega arith), rw z)
+loop-holds c =
+    let z : c .args .at + 0 ≡ c .args .at = omega arith in
+    (search needs, omega arith, rw z (omega arith), rw z)
 
 mul-n : tie.Need-mul-n Inv-loop μ-loop
 mul-n c = omega (arith, two-digits (c .before .loop .i) (omega arith))
@@ -90,7 +94,8 @@ returns : tie.Need-returns Inv-loop μ-loop
 returns c =
     let s = c .before .before .args in
     let l = c .before .loop in
-    sym (ap (decimalFrom (l .n)) (drop-of-length-le (digits (drop (s .at + l .i) (s .text .now))) {i = 0} (omega arith))) ∙ l .inv .3
+    let none = drop-of-length-le (digits (drop (s .at + l .i) (s .text .now))) {i = 0} (omega arith) in
+    sym (ap (decimalFrom (l .n)) none) ∙ l .inv .3
 
 pub decimal-at-spec : {M : Type 1} → statement M
 decimal-at-spec =

@@ -12,7 +12,8 @@ use Rattle.read_items.proofs.digit_count.Statement.{statement}
 use Rattle.read_items.proofs.digit_count.Tie as tie
 
 abbrev Inv-loop : tie.InvT-loop
-Inv-loop text at end₀ end = (at ≤ end) × (length (digits (drop at text)) ≡ end - at + length (digits (drop end text)))
+Inv-loop text at end₀ end =
+    (at ≤ end) × (length (digits (drop at text)) ≡ end - at + length (digits (drop end text)))
 
 abbrev μ-loop : tie.MeasureT-loop
 μ-loop text at end₀ end = length text - end
@@ -29,11 +30,19 @@ is-digit-requires c κs = search needs
 sub-result : tie.Need-sub-result Inv-loop μ-loop
 sub-result c = search needs
 
+-- the loop's head, from where a turn has judged its byte
+abbrev headOf : tie.After-is-digit Inv-loop μ-loop → tie.At-loop Inv-loop μ-loop
+headOf c = c .before .before .before
+
+abbrev startOf : tie.At-loop Inv-loop μ-loop → tie.Start Inv-loop μ-loop
+startOf c = c .before .before
+
 returns : tie.Need-returns Inv-loop μ-loop
 returns c =
-    let s = c .before .before .before .before .before .before .args in
-    let l = c .before .before .before .before .loop in
-    omega (arith, ap length (digits-other (s .text .now) (l .end) (omega arith) (failed (c .before .is-digit .ensures) (c .if1 .taken))))
+    let s = startOf (headOf (c .before)) .args in
+    let l = headOf (c .before) .loop in
+    let other = failed (c .before .is-digit .ensures) (c .if1 .taken) in
+    omega (arith, ap length (digits-other (s .text .now) (l .end) (omega arith) other))
 
 add-end : tie.Need-add-end Inv-loop μ-loop
 add-end c = search needs
@@ -43,16 +52,17 @@ loop-less c = search needs
 
 loop-again : tie.Need-loop-again Inv-loop μ-loop
 loop-again c =
-    let s = c .before .before .before .before .before .before .args in
-    let l = c .before .before .before .before .loop in
-    (search needs, omega (arith, ap length (digits-more (s .text .now) (l .end) (omega arith) (passed (c .before .is-digit .ensures) (c .if1 .left)))))
+    let s = startOf (headOf (c .before)) .args in
+    let l = headOf (c .before) .loop in
+    let digit = passed (c .before .is-digit .ensures) (c .if1 .left) in
+    (search needs, omega (arith, ap length (digits-more (s .text .now) (l .end) (omega arith) digit)))
 
 sub-result-2 : tie.Need-sub-result-2 Inv-loop μ-loop
 sub-result-2 c = search needs
 
 returns-2 : tie.Need-returns-2 Inv-loop μ-loop
 returns-2 c =
-    omega (arith, ap length (digits-none (c .before .before .before .args .text .now) (c .before .loop .end) (omega arith)))
+    omega (arith, ap length (digits-none (startOf (c .before) .args .text .now) (c .before .loop .end) (omega arith)))
 
 pub digit-count-spec : {M : Type 1} → statement M
 digit-count-spec =

@@ -13,20 +13,34 @@ returns c = rw (← c .before .pre, lt-leb 1 (c .before .args .count) (omega ari
 
 returns-2 : tie.Need-returns-2
 unfolding isNumber
-returns-2 c = let n = c .before .before .args .count in rw (← c .before .before .pre, le-leb 1 n (omega arith), lt-leb n 3 (omega arith))
+returns-2 c =
+    let n = c .before .before .args .count in
+    rw (← c .before .before .pre, le-leb 1 n (omega arith), lt-leb n 3 (omega arith))
 
 returns-3 : tie.Need-returns-3
 unfolding isNumber
 returns-3 c = rw (← c .before .before .before .pre, c .if3 .taken)
 
+-- the start, from where there are several digits
+abbrev startOf : tie.Else3 → tie.Start
+startOf c = c .before .before .before
+
 shared-slice-read-result : tie.Need-shared-slice-read-result
-shared-slice-read-result c = digits-some (c .before .before .before .before .args .text .now) (c .before .before .before .before .args .at) (omega arith) .0
+shared-slice-read-result c =
+    let s = startOf (c .before) .args in
+    digits-some (s .text .now) (s .at) (omega arith) .0
 
 returns-4 : tie.Need-returns-4
 unfolding isNumber
 returns-4 c =
-    let s = c .before .before .before .before .args in
-    rw (← c .before .before .before .before .pre, le-leb 1 (s .count) (omega arith), le-leb (s .count) 3 (omega arith), ne-eqb (s .count) 1 (omega arith), digits-some (s .text .now) (s .at) (omega arith) .3)
+    let s = startOf (c .before) .args in
+    rw (
+      ← startOf (c .before) .pre,
+      le-leb 1 (s .count) (omega arith),
+      le-leb (s .count) 3 (omega arith),
+      ne-eqb (s .count) 1 (omega arith),
+      digits-some (s .text .now) (s .at) (omega arith) .3,
+    )
 
 pub number-formed-spec : {M : Type 1} → statement M
 number-formed-spec =

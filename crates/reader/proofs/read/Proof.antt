@@ -1,4 +1,5 @@
--- `reader::read` meets its contract: with an outcome the set is empty, and without one it is the set that was read; a reading has its meaning.
+-- `reader::read` meets its contract: with an outcome the set is empty, and without one it is the set that was read;
+-- a reading has its meaning.
 -- Assumes nothing.
 use mathlib.Core.Path.{_≡_, sym, subst, _∙_}
 use mathlib.Core.List.{List}
@@ -25,14 +26,21 @@ empty-set-requires c κs = search needs
 outcome-of-requires : tie.Need-outcome-of-requires
 outcome-of-requires c κs = c .before .before .file-lines .ensures
 
+abbrev startOf : tie.After-set → tie.Start
+startOf c = c .before .before .before
+
 returns : tie.Need-returns
 returns c =
-    let text = c .before .before .before .before .before .before .args .text .now in
+    let text = startOf (c .before .before .before) .args .text .now in
     let judged = c .before .outcome-of .ensures in
-    answers text _ (rw (judged, c .before .before .empty-set .ensures) (sym (none-read text (λ e. c .if1 .taken (judged ∙ e)))))
+    answers text _
+    (rw (judged, c .before .before .empty-set .ensures) (sym (none-read text (λ e. c .if1 .taken (judged ∙ e)))))
 
 returns-2 : tie.Need-returns-2
-returns-2 c = answers _ _ (sym (set-read _ _ _ _ (c .before .before .before .before .file-lines .ensures) (sym (c .before .outcome-of .ensures) ∙ c .if1 .left)))
+returns-2 c =
+    let lines = c .before .before .before in
+    answers _ _
+    (sym (set-read _ _ _ _ (lines .before .file-lines .ensures) (sym (c .before .outcome-of .ensures) ∙ c .if1 .left)))
 
 pub read-spec : {M : Type 1} → statement M
 read-spec = tie.close (tie.spec file-lines-requires empty-set-requires outcome-of-requires returns returns-2)
