@@ -9,10 +9,10 @@ ghost use Rattle.planner_spec.specs.Packed.{packed};
 const LENGTH_LIMIT: u64 = 72057594037927936;
 
 // The outcome in the low byte, the length above it: of a longer one its low 56 bits.
-pub fn pack_length(outcome: u8, length: usize) -> u64
-    ensures { λ r. ⌜ r ≡ packedLength outcome (length % lengthLimit) ⌝ }
+pub fn pack_length(outcome: u8, size: usize) -> u64
+    ensures { λ r. ⌜ r ≡ packedLength outcome (size % lengthLimit) ⌝ }
 {
-    (outcome as u64) + 256 * ((length as u64) % LENGTH_LIMIT)
+    (outcome as u64) + 256 * ((size as u64) % LENGTH_LIMIT)
 }
 
 // An answer as one number.

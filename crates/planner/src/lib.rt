@@ -7,18 +7,23 @@ ghost use Prim.Native.Nat.{_/_, _%_};
 ghost use lib.ListN.{length};
 ghost use Rattle.files_spec.specs.Reading.{reading};
 ghost use Rattle.files_spec.specs.Meaning.{JudgeMeaning};
+ghost use Rattle.files_spec.specs.declared.Written.{Written};
+ghost use Rattle.tables_spec.specs.declared.TableSize.{TableSize};
 ghost use Rattle.search_spec.specs.Query.{asked};
 ghost use Rattle.search_spec.specs.Searched.{Searched};
 ghost use Rattle.planner_spec.specs.Packed.{unpacked, searchedText, packedSearch};
 ghost use Rattle.planner_spec.specs.Rewriting.{rewrittenBuffer, packedRewritten, RewriteMeaning};
-ghost use Rattle.planner_spec.specs.TextTables.{packedTableSize, textBuildOutcome, textBuiltBuffer, textCheckOutcome, TextSizeMeaning, TextBuildMeaning, TextCheckMeaning};
-ghost use Rattle.planner_spec.specs.TextMacro.{macroBuffer, textMacro, TextMacroMeaning};
+ghost use Rattle.planner_spec.specs.TextTables.{packedTableSize, textBuildOutcome, textBuiltBuffer, textCheckOutcome};
+ghost use Rattle.planner_spec.specs.TextTables.{TextSizeMeaning, TextBuildMeaning, TextCheckMeaning};
+ghost use Rattle.planner_spec.specs.TextMacro.{textMacro, macroBuffer, TextMacroMeaning};
 ghost use Rattle.planner_spec.specs.TextSearch.{TextSearchMeaning};
 
 // Judges a rule file for C: 1 to 4, or 0.
 #[no_mangle]
 pub extern "C" fn planner_read(text: &[u8]) -> u8
-    ensures { λ r. ⌜ (r ≡ reading (now (text .entry)) .outcome) × JudgeMeaning (now (text .entry)) r ⌝ }
+    ensures { λ r. ⌜
+        (r ≡ reading (now (text .entry)) .outcome)
+        × JudgeMeaning (now (text .entry)) r ⌝ }
 {
     let judged = reader::read(text);
     judged.outcome
@@ -27,7 +32,12 @@ pub extern "C" fn planner_read(text: &[u8]) -> u8
 // Reads a rule file and writes it again, or zeroes the buffer: the outcome in the low byte, the length above it.
 #[no_mangle]
 pub extern "C" fn planner_rewrite(text: &[u8], out: &mut [u8]) -> u64
-    ensures { λ r. ⌜ (r ≡ packedRewritten (now (text .entry)) (length (now (out .entry)))) × (now (out .exit) ≡ rewrittenBuffer (now (text .entry)) (length (now (out .entry)))) × RewriteMeaning (now (text .entry)) (length (now (out .entry))) (record { outcome = r % 256; length = r / 256 }) (now (out .exit)) ⌝ }
+    ensures { λ r. ⌜
+        (let room = length (now (out .entry)) in
+        let answer : Written = record { outcome = r % 256; length = r / 256 } in
+        (r ≡ packedRewritten (now (text .entry)) room)
+        × (now (out .exit) ≡ rewrittenBuffer (now (text .entry)) room)
+        × RewriteMeaning (now (text .entry)) room answer (now (out .exit))) ⌝ }
 {
     let answer = text_files::rewrite(text, out);
     pack_length(answer.outcome, answer.length)
@@ -36,7 +46,10 @@ pub extern "C" fn planner_rewrite(text: &[u8], out: &mut [u8]) -> u64
 // How long a table is: the outcome in the low byte, the length in bytes above it.
 #[no_mangle]
 pub extern "C" fn planner_table_size(rules: &[u8], reach: usize) -> u64
-    ensures { λ r. ⌜ (r ≡ packedTableSize (now (rules .entry)) reach) × TextSizeMeaning (now (rules .entry)) reach (record { outcome = r % 256; length = r / 256 }) ⌝ }
+    ensures { λ r. ⌜
+        (let answer : TableSize = record { outcome = r % 256; length = r / 256 } in
+        (r ≡ packedTableSize (now (rules .entry)) reach)
+        × TextSizeMeaning (now (rules .entry)) reach answer) ⌝ }
 {
     let size = text_tables::table_size(rules, reach);
     pack_length(size.outcome, size.length)
@@ -45,7 +58,11 @@ pub extern "C" fn planner_table_size(rules: &[u8], reach: usize) -> u64
 // Builds the table, or zeroes it.
 #[no_mangle]
 pub extern "C" fn planner_build_table(rules: &[u8], table: &mut [u8], reach: usize) -> u8
-    ensures { λ r. ⌜ (r ≡ textBuildOutcome (now (rules .entry)) reach (length (now (table .entry)))) × (now (table .exit) ≡ textBuiltBuffer (now (rules .entry)) reach (length (now (table .entry)))) × TextBuildMeaning (now (rules .entry)) reach (length (now (table .entry))) r (now (table .exit)) ⌝ }
+    ensures { λ r. ⌜
+        (let size = length (now (table .entry)) in
+        (r ≡ textBuildOutcome (now (rules .entry)) reach size)
+        × (now (table .exit) ≡ textBuiltBuffer (now (rules .entry)) reach size)
+        × TextBuildMeaning (now (rules .entry)) reach size r (now (table .exit))) ⌝ }
 {
     text_tables::build_table(rules, reach, table)
 }
@@ -53,15 +70,22 @@ pub extern "C" fn planner_build_table(rules: &[u8], table: &mut [u8], reach: usi
 // Checks a table, whoever made it.
 #[no_mangle]
 pub extern "C" fn planner_check_table(rules: &[u8], table: &[u8], reach: usize) -> u8
-    ensures { λ r. ⌜ (r ≡ textCheckOutcome (now (rules .entry)) reach (now (table .entry))) × TextCheckMeaning (now (rules .entry)) reach (now (table .entry)) r ⌝ }
+    ensures { λ r. ⌜
+        (r ≡ textCheckOutcome (now (rules .entry)) reach (now (table .entry)))
+        × TextCheckMeaning (now (rules .entry)) reach (now (table .entry)) r ⌝ }
 {
     text_tables::check_table(rules, reach, table)
 }
 
-// The macro of a sequence of rule numbers, as bytes; zeros when refused.
+// The macro of a sequence of rule numbers, as bytes; zeros when refused, also where the buffer is too short.
 #[no_mangle]
 pub extern "C" fn planner_macro(rules: &[u8], moves: &[u8], out: &mut [u8]) -> u8
-    ensures { λ r. ⌜ (r ≡ textMacro (now (rules .entry)) (now (moves .entry)) .outcome) × (now (out .exit) ≡ macroBuffer (length (now (out .entry))) (textMacro (now (rules .entry)) (now (moves .entry)) .result)) × TextMacroMeaning (now (rules .entry)) (now (moves .entry)) (length (now (out .entry))) r (now (out .exit)) ⌝ }
+    ensures { λ r. ⌜
+        (let room = length (now (out .entry)) in
+        let answer = textMacro (now (rules .entry)) (now (moves .entry)) room in
+        (r ≡ answer .outcome)
+        × (now (out .exit) ≡ macroBuffer room answer)
+        × TextMacroMeaning (now (rules .entry)) (now (moves .entry)) room r (now (out .exit))) ⌝ }
 {
     text_macros::macro_of(rules, moves, out)
 }
@@ -81,12 +105,11 @@ pub extern "C" fn planner_search(
 ) -> u64
     ensures { λ r. ⌜
         (let query = asked reach (now (table .entry)) (now (start .entry)) (now (goal .entry))
-        «max_moves» «max_cost» «step_limit» in
-        let room = length (now (plan .entry)) in
+        «max_moves» «max_cost» «step_limit» (length (now (plan .entry))) in
         let found : Searched = record { answer = unpacked r; plan = now (plan .exit) } in
-        (r ≡ packedSearch (now (rules .entry)) query room)
-        × (now (plan .exit) ≡ searchedText (now (rules .entry)) query room .plan)
-        × TextSearchMeaning (now (rules .entry)) query room found) ⌝ }
+        (r ≡ packedSearch (now (rules .entry)) query)
+        × (now (plan .exit) ≡ searchedText (now (rules .entry)) query .plan)
+        × TextSearchMeaning (now (rules .entry)) query found) ⌝ }
 {
     let answer = search_text(
         rules,

@@ -1,18 +1,23 @@
--- A macro's bytes: which byte stands where, that the macro can be read back from them, and what a buffer holds that has room for all or for some of them.
+-- A macro's bytes: which byte stands where, that the macro can be read back from them, and what a buffer holds after
+-- an answer.
 -- Assumes nothing.
-use mathlib.Core.Path.{_≡_, refl, sym, ap, _∙_}
-use mathlib.Core.List.{List, [], _∷_, _++_, append-assoc}
-use Prim.Native.Nat.{ℕ, zero, suc, _+_, _-_, _/_, _%_, _≤_, _<_}
-use native.Mathlib.Nat.{not-suc-le-zero, le-of-suc-le-suc}
+use mathlib.Core.Path.{_≡_, sym, ap, _∙_}
+use mathlib.Core.Logic.{_≢_, ⊎-elim}
+use mathlib.Core.List.{List, _++_, append-assoc}
+use Prim.Native.Nat.{ℕ, _+_, _-_, _/_, _%_, _≤_, _<_}
 use native.Mathlib.Omega.{arith}
-use lib.ListN.{length, getD, take, drop, replicate, length-append, length-replicate, length-take, List·getD-append}
-use lib.Seq.{take-all, take-at, drop-at, getD-append-add, ext-getD}
+use lib.ListN.{length, getD, take, drop, replicate, length-append, replicate-append-replicate}
+use lib.ListN.{List·getD-append, List·getD-eq-default}
+use lib.Seq.{take-at, drop-at, getD-append-add}
+use borrow.Author.Tests.{eq-eqb, ne-eqb}
 use Rattle.theory_spec.specs.Lists.{padded}
 use Rattle.theory_spec.proofs.ListLaws.{padded-length, zeros-at}
+use Rattle.theory_spec.proofs.TestLaws.{below?}
 use Rattle.macros_spec.specs.Answers.{blankMacro}
 use Rattle.macros_spec.specs.declared.Macro.{Macro}
+use Rattle.macros_spec.specs.declared.MacroAnswer.{MacroAnswer}
 use Rattle.tables_spec.specs.Table.{entryAt, entryBytes}
-use Rattle.planner_spec.specs.TextMacro.{macroBytes, macroOf, macroBuffer}
+use Rattle.planner_spec.specs.TextMacro.{macroBytes, macroSize, macroOf, macroBuffer}
 
 -- ── Which byte stands where ──────────────────────────────────────────────────────────────────────
 
@@ -74,37 +79,42 @@ module _ (m : Macro) (conditionSize : length (m .condition) ≡ 16) (effectSize 
 
 -- ── Buffers ──────────────────────────────────────────────────────────────────────────────────────
 
--- a list cut to n elements, or made up to n by zeros, has the list's elements
-cut-at : (n i : ℕ) (l : List ℕ) → i < n → getD (padded n 0 (take n l)) i 0 ≡ getD l i 0
-cut-at zero i l h = absurd (not-suc-le-zero h)
-cut-at (suc n) i [] h = zeros-at (suc n - 0) i
-cut-at (suc n) zero (x ∷ l) h = refl
-cut-at (suc n) (suc i) (x ∷ l) h =
-    let e : suc n - suc (length (take n l)) ≡ n - length (take n l) = omega arith in
-    ap (λ k. getD (take n l ++ replicate k 0) i 0) e ∙ cut-at n i l (le-of-suc-le-suc h)
+-- a list made up by zeros has the list's elements
+pub padded-at : (n i : ℕ) (l : List ℕ) → getD (padded n 0 l) i 0 ≡ getD l i 0
+padded-at n i l =
+    ⊎-elim (λ h. List·getD-append l (replicate (n - length l) 0) 0 i h)
+    (λ h.
+    let e : i ≡ length l + (i - length l) = omega (arith, h) in
+    ap (λ k. getD (padded n 0 l) k 0) e
+    ∙ getD-append-add l (replicate (n - length l) 0) (i - length l) 0
+    ∙ zeros-at (n - length l) (i - length l)
+    ∙ sym (List·getD-eq-default l 0 {n = i} h))
+    (below? i (length l))
 
-module _ (room : ℕ) (m : Macro) where
-  pub buffer-size : length (macroBuffer room m) ≡ room
+module _ (room : ℕ) (fits : macroSize ≤ room) where
+  -- a buffer with the bytes of a macro, and zeros after them
+  module _ (m : Macro) (conditionSize : length (m .condition) ≡ 16) (effectSize : length (m .effect) ≡ 16) where
+    pub buffer-size : length (padded room 0 (macroBytes m)) ≡ room
+    buffer-size = padded-length room 0 (macroBytes m) (omega (arith, bytes-34 m conditionSize effectSize, fits))
+
+    -- gives the macro back
+    pub buffer-back : macroOf (padded room 0 (macroBytes m)) ≡ m
+    buffer-back = read-back m conditionSize effectSize (replicate (room - length (macroBytes m)) 0)
+
+  -- the bytes of a refused macro are zeros
+  pub blank-bytes : padded room 0 (macroBytes blankMacro) ≡ replicate room 0
+  unfolding macroBytes
+  blank-bytes =
+      let whole : 34 + (room - 34) ≡ room = omega (arith, fits) in
+      replicate-append-replicate 34 (room - 34) 0 ∙ ap (λ n. replicate n 0) whole
+
+-- ── After an answer ──────────────────────────────────────────────────────────────────────────────
+
+module _ (room : ℕ) (answer : MacroAnswer) where
+  pub buffer-given : answer .outcome ≡ 0 → macroBuffer room answer ≡ padded room 0 (macroBytes (answer .result))
   unfolding macroBuffer
-  buffer-size = padded-length room 0 (take room (macroBytes m)) (omega (arith, length-take room (macroBytes m)))
+  buffer-given e = rw (eq-eqb (answer .outcome) 0 e)
 
-  pub buffer-at : (i : ℕ) → i < room → getD (macroBuffer room m) i 0 ≡ getD (macroBytes m) i 0
+  pub buffer-refused : answer .outcome ≢ 0 → macroBuffer room answer ≡ replicate room 0
   unfolding macroBuffer
-  buffer-at i h = cut-at room i (macroBytes m) h
-
-  -- a buffer with room for all bytes gives the macro back
-  pub buffer-back : length (m .condition) ≡ 16 → length (m .effect) ≡ 16 → 34 ≤ room → macroOf (macroBuffer room m) ≡ m
-  unfolding macroBuffer
-  buffer-back c e h =
-      let whole = take-all room (macroBytes m) (omega (arith, bytes-34 m c e)) in
-      ap (λ l. macroOf (padded room 0 l)) whole ∙ read-back m c e (replicate (room - length (macroBytes m)) 0)
-
--- the bytes of a refused macro are zeros
-blank-bytes : macroBytes blankMacro ≡ replicate 34 0
-unfolding macroBytes
-blank-bytes = refl
-
-pub blank-buffer : (room : ℕ) → macroBuffer room blankMacro ≡ replicate room 0
-blank-buffer room =
-    ext-getD 0 (macroBuffer room blankMacro) (replicate room 0) (buffer-size room blankMacro ∙ sym (length-replicate room 0))
-    (λ i h. buffer-at room blankMacro i (omega (arith, buffer-size room blankMacro)) ∙ ap (λ l. getD l i 0) blank-bytes ∙ zeros-at 34 i ∙ sym (zeros-at room i))
+  buffer-refused h = rw (ne-eqb (answer .outcome) 0 h)

@@ -1,7 +1,7 @@
 -- A rule file read and written again: what the answer and the buffer mean, and how large the numbers are.
 -- Assumes nothing.
 use mathlib.Core.Path.{_≡_, refl, sym, ap, subst, _∙_}
-use mathlib.Core.Logic.{_≢_, ⊎-elim}
+use mathlib.Core.Logic.{_≢_, inl, inr, ⊎-elim}
 use mathlib.Core.List.{List}
 use Prim.Native.Nat.{ℕ, _/_, _%_, _≤_, _<_}
 use native.Mathlib.Omega.{arith}
@@ -21,7 +21,7 @@ use Rattle.files_spec.proofs.LengthLaws.{render-bound}
 use Rattle.files_spec.proofs.ReadTextLaws.{read-as}
 use Rattle.planner_spec.specs.PackedLength.{packedLength, lengthLimit}
 use Rattle.planner_spec.specs.Rewriting.{rewritten, rewrittenBuffer, packedRewritten, RewriteMeaning}
-use Rattle.planner_spec.proofs.OfTextLaws.{of-read, of-refused}
+use Rattle.planner_spec.proofs.OfTextLaws.{of-read, of-refused, Own, text-judged}
 use Rattle.planner_spec.proofs.PackedLengthLaws.{packs, packs-outcome, packs-length}
 
 module _ (text : List ℕ) (room : ℕ) where
@@ -47,6 +47,7 @@ module _ (text : List ℕ) (room : ℕ) where
         again = (λ e. absurd (n e), λ w. absurd (n (accepted-iff text .1 (w .0))));
         sameText = λ e. absurd (n e);
         tooLong = (λ e. absurd (reading-other text 8 refl e), λ w. absurd (n (accepted-iff text .1 (w .0))));
+        judged = text-judged text (reading text .outcome) (λ _. refl) (λ e. inl e);
         asRead = λ k _ _. (λ e. e, λ e. e);
         noText = λ _. (refl, refl);
         never7 = reading-other text 7 refl;
@@ -73,8 +74,12 @@ module _ (text : List ℕ) (room : ℕ) where
     )
 
     -- the writer's outcome is none of the reader's
+    own : Own (written set room .outcome)
+    own =
+        ⊎-elim (λ s. inr (omega (arith, long-iff .1 s))) (λ s. inl (fits-iff .1 s)) (below? room (length text))
+
     not-readers : (k : ℕ) → 1 ≤ k → k ≤ 4 → written set room .outcome ≢ k
-    not-readers k l h e = ⊎-elim (λ s. omega (arith, e, long-iff .1 s)) (λ s. omega (arith, e, fits-iff .1 s)) (below? room (length text))
+    not-readers k l h e = ⊎-elim (λ o. omega (arith, e, o)) (λ o. omega (arith, e, o)) own
 
     was-read-means : RewriteMeaning text room (written set room) (writtenBuffer set room)
     was-read-means =
@@ -84,6 +89,7 @@ module _ (text : List ℕ) (room : ℕ) where
               let same = file-again text set room (read-as text taken) (fits-iff .0 e) in
               (ap (λ (answer : Written). answer .length) (same .0), same .1);
           tooLong = (λ e. (accepted-iff text .0 taken, long-iff .0 e), λ w. long-iff .1 (w .1));
+          judged = text-judged text (written set room .outcome) (λ n. absurd (n taken)) (λ _. own);
           asRead = λ k l h. (λ e. absurd (not-readers k l h e), λ e. absurd (omega (arith, e, taken)));
           noText = written-refused set room;
           never7 = λ e. invalid-iff set room .0 e (read-written text set (read-as text taken) .0);

@@ -1,4 +1,5 @@
--- What the entries on tables give of a text that is read and of one that is refused, and what it means; and that the length that is told can be built, and what is built passes the check.
+-- What the entries on tables give of a text that is read and of one that is refused, and what it means; and that the
+-- length that is told can be built, and what is built passes the check.
 -- Assumes nothing.
 use mathlib.Core.Path.{_≡_, refl, sym, ap, subst, _∙_}
 use mathlib.Core.Logic.{_≢_, ⊎-elim}
@@ -7,30 +8,38 @@ use Prim.Native.Nat.{ℕ, _/_, _%_, _≤_, _<_}
 use native.Mathlib.Omega.{arith}
 use lib.ListN.{length, replicate}
 use Rattle.theory_spec.proofs.TestLaws.{equal?}
-use Rattle.model_spec.specs.Validity.{Valid}
 use Rattle.model_spec.specs.declared.RuleSet.{RuleSet}
 use Rattle.model_spec.proofs.RefusalLaws.{refusal-at-most}
 use Rattle.files_spec.specs.Reading.{reading}
-use Rattle.files_spec.proofs.RefusedLaws.{reading-other, reading-byte}
-use Rattle.files_spec.proofs.ReadTextLaws.{read-valid}
+use Rattle.files_spec.proofs.RefusedLaws.{reading-byte}
 use Rattle.tables_spec.specs.declared.TableSize.{TableSize}
-use Rattle.tables_spec.specs.Answers.{sizeCauses, tableSize, buildOutcome, builtBuffer, checkOutcome}
+use Rattle.tables_spec.specs.Answers.{sizeCauses, tableSize, tableCauses, buildOutcome, builtBuffer}
+use Rattle.tables_spec.specs.Answers.{checkCauses, checkOutcome}
 use Rattle.tables_spec.proofs.AnswerLaws.{built-whole, built-checks, build-meaning, check-meaning}
 use Rattle.tables_spec.proofs.SizeLaws.{size-meaning, size-builds-iff}
 use Rattle.planner_spec.specs.PackedLength.{packedLength, lengthLimit}
-use Rattle.planner_spec.specs.TextTables.{textTableSize, packedTableSize, textBuildOutcome, textBuiltBuffer, textCheckOutcome, TextSizeMeaning, TextBuildMeaning, TextCheckMeaning}
-use Rattle.planner_spec.proofs.OfTextLaws.{of-read, of-refused}
+use Rattle.planner_spec.specs.TextTables.{textTableSize, packedTableSize, textBuildOutcome, textBuiltBuffer}
+use Rattle.planner_spec.specs.TextTables.{textCheckOutcome, TextSizeMeaning, TextBuildMeaning, TextCheckMeaning}
+use Rattle.planner_spec.proofs.OfTextLaws.{of-read, of-refused, Own, own-refusal, not-7, text-judged}
 use Rattle.planner_spec.proofs.PackedLengthLaws.{packs, packs-outcome, packs-length}
-
--- an outcome is not 7 where it is the reading's for a refused text, and says that the set is not valid for any other
-pub not-7 : (text : List ℕ) (outcome : ℕ) → (reading text .outcome ≢ 0 → outcome ≡ reading text .outcome)
-    → (reading text .outcome ≡ 0 → outcome ≡ 7 → Valid (reading text .set) → ⊥) → outcome ≢ 7
-not-7 text outcome refused invalid e =
-    ⊎-elim (λ z. invalid z e (read-valid text z)) (λ h. absurd (reading-other text 7 refl (sym (refused h) ∙ e))) (equal? (reading text .outcome) 0)
 
 size-outcome : (set : RuleSet) (reach : ℕ) → tableSize set reach .outcome ≤ 7
 unfolding tableSize
 size-outcome set reach = refusal-at-most 7 (sizeCauses set reach) (omega arith, (omega arith, tt))
+
+-- the numbers of the calls on a set are none of the reader's
+size-own : (set : RuleSet) (reach : ℕ) → Own (tableSize set reach .outcome)
+unfolding tableSize
+size-own set reach = own-refusal (sizeCauses set reach) (omega arith, (omega arith, tt))
+
+build-own : (set : RuleSet) (reach size : ℕ) → Own (buildOutcome set reach size)
+unfolding buildOutcome tableCauses
+build-own set reach size = own-refusal (tableCauses set reach size) (omega arith, (omega arith, (omega arith, tt)))
+
+check-own : (set : RuleSet) (reach : ℕ) (table : List ℕ) → Own (checkOutcome set reach table)
+unfolding checkOutcome checkCauses
+check-own set reach table =
+    own-refusal (checkCauses set reach table) (omega arith, (omega arith, (omega arith, (omega arith, tt))))
 
 module _ (text : List ℕ) (reach : ℕ) where
   pub size-read : reading text .outcome ≡ 0 → textTableSize text reach ≡ tableSize (reading text .set) reach
@@ -48,12 +57,19 @@ module _ (text : List ℕ) (reach : ℕ) where
       (λ h. omega (arith, ap (λ (a : TableSize). a .outcome) (size-refused h), reading-byte text)) (equal? (reading text .outcome) 0)
 
   pub text-size-meaning : TextSizeMeaning text reach (textTableSize text reach)
-  text-size-meaning = record {
-    refusedText = λ h. (ap (λ (a : TableSize). a .outcome) (size-refused h), ap (λ (a : TableSize). a .length) (size-refused h));
-    readText = λ e. rw (size-read e) (size-meaning (reading text .set) reach);
-    never7 = not-7 text (textTableSize text reach .outcome) (λ h. ap (λ (a : TableSize). a .outcome) (size-refused h))
-        (λ e z. size-meaning (reading text .set) reach .notValid .0 (sym (ap (λ (a : TableSize). a .outcome) (size-read e)) ∙ z));
-  }
+  text-size-meaning =
+      let set = reading text .set in
+      let outcome : TableSize → ℕ = λ answer. answer .outcome in
+      let refused : reading text .outcome ≢ 0 → textTableSize text reach .outcome ≡ reading text .outcome =
+      λ h. ap outcome (size-refused h) in
+      record {
+        judged = text-judged text (textTableSize text reach .outcome) refused
+            (λ e. subst Own (sym (ap outcome (size-read e))) (size-own set reach));
+        refusedText = λ h. (refused h, ap (λ (answer : TableSize). answer .length) (size-refused h));
+        readText = λ e. rw (size-read e) (size-meaning set reach);
+        never7 = not-7 text (textTableSize text reach .outcome) refused
+            (λ e z. size-meaning set reach .notValid .0 (sym (ap outcome (size-read e)) ∙ z));
+      }
 
   -- no table is longer than 61,568 bytes
   size-short : textTableSize text reach .length < lengthLimit
@@ -86,12 +102,17 @@ module _ (text : List ℕ) (reach size : ℕ) where
   build-refused h = (of-refused text _ _ h, of-refused text _ _ h)
 
   pub text-build-meaning : TextBuildMeaning text reach size (textBuildOutcome text reach size) (textBuiltBuffer text reach size)
-  text-build-meaning = record {
-    refusedText = build-refused;
-    readText = λ e. let w = build-read e in rw (w .0, w .1) (build-meaning (reading text .set) reach size);
-    never7 = not-7 text (textBuildOutcome text reach size) (λ h. build-refused h .0)
-        (λ e z. build-meaning (reading text .set) reach size .notValid .0 (sym (build-read e .0) ∙ z));
-  }
+  text-build-meaning =
+      let set = reading text .set in
+      let outcome = textBuildOutcome text reach size in
+      record {
+        judged = text-judged text outcome (λ h. build-refused h .0)
+            (λ e. subst Own (sym (build-read e .0)) (build-own set reach size));
+        refusedText = build-refused;
+        readText = λ e. let w = build-read e in rw (w .0, w .1) (build-meaning set reach size);
+        never7 = not-7 text outcome (λ h. build-refused h .0)
+            (λ e z. build-meaning set reach size .notValid .0 (sym (build-read e .0) ∙ z));
+      }
 
 module _ (text : List ℕ) (reach : ℕ) (table : List ℕ) where
   pub check-read : reading text .outcome ≡ 0 → textCheckOutcome text reach table ≡ checkOutcome (reading text .set) reach table
@@ -103,12 +124,17 @@ module _ (text : List ℕ) (reach : ℕ) (table : List ℕ) where
   check-refused = of-refused text _ _
 
   pub text-check-meaning : TextCheckMeaning text reach table (textCheckOutcome text reach table)
-  text-check-meaning = record {
-    refusedText = check-refused;
-    readText = λ e. rw (check-read e) (check-meaning (reading text .set) reach table);
-    never7 = not-7 text (textCheckOutcome text reach table) check-refused
-        (λ e z. check-meaning (reading text .set) reach table .notValid .0 (sym (check-read e) ∙ z));
-  }
+  text-check-meaning =
+      let set = reading text .set in
+      let outcome = textCheckOutcome text reach table in
+      record {
+        judged = text-judged text outcome check-refused
+            (λ e. subst Own (sym (check-read e)) (check-own set reach table));
+        refusedText = check-refused;
+        readText = λ e. rw (check-read e) (check-meaning set reach table);
+        never7 = not-7 text outcome check-refused
+            (λ e z. check-meaning set reach table .notValid .0 (sym (check-read e) ∙ z));
+      }
 
 -- ── The entries together ─────────────────────────────────────────────────────────────────────────
 

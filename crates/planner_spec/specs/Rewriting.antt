@@ -9,7 +9,7 @@ use Rattle.files_spec.specs.Reading.{reading, Faultless}
 use Rattle.files_spec.specs.Writing.{written, writtenBuffer}
 use Rattle.files_spec.specs.declared.Written.{Written}
 use Rattle.planner_spec.specs.PackedLength.{packedLength}
-use Rattle.planner_spec.specs.OfText.{ofText}
+use Rattle.planner_spec.specs.OfText.{ofText, TextJudged}
 
 -- the answer for a buffer of `room` bytes: the reader's refusal, 1 to 4, with length 0; else the writer's answer
 unfoldable pub rewritten : List ℕ → ℕ → Written
@@ -32,7 +32,8 @@ pub record RewriteMeaning (text : List ℕ) (room : ℕ) (answer : Written) (buf
   pub sameText : answer .outcome ≡ 0 → (answer .length ≡ length text) × (buffer ≡ padded room 0 text)
   -- 8 exactly if it has no fault and is longer than the buffer
   pub tooLong : (answer .outcome ≡ 8) ↔ (Faultless text × (room < length text))
-  -- 1 to 4 exactly as the reader gives them
+  -- 1 to 4 are the text's faults, exactly as the reader gives them
+  pub judged : TextJudged text (answer .outcome)
   pub asRead : (n : ℕ) → 1 ≤ n → n ≤ 4 → (answer .outcome ≡ n) ↔ (reading text .outcome ≡ n)
   -- when refused, no length and zeros throughout
   pub noText : answer .outcome ≢ 0 → (answer .length ≡ 0) × (buffer ≡ replicate room 0)

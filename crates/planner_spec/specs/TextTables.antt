@@ -6,9 +6,10 @@ use Prim.Native.Nat.{ℕ}
 use lib.ListN.{replicate}
 use Rattle.files_spec.specs.Reading.{reading}
 use Rattle.tables_spec.specs.declared.TableSize.{TableSize}
-use Rattle.tables_spec.specs.Answers.{tableSize, buildOutcome, builtBuffer, checkOutcome, SizeMeaning, BuildMeaning, CheckMeaning}
+use Rattle.tables_spec.specs.Answers.{tableSize, buildOutcome, builtBuffer, checkOutcome}
+use Rattle.tables_spec.specs.Answers.{SizeMeaning, BuildMeaning, CheckMeaning}
 use Rattle.planner_spec.specs.PackedLength.{packedLength}
-use Rattle.planner_spec.specs.OfText.{ofText}
+use Rattle.planner_spec.specs.OfText.{ofText, TextJudged}
 
 -- how long a table is; a refused text has no length
 unfoldable pub textTableSize : List ℕ → ℕ → TableSize
@@ -32,19 +33,23 @@ textCheckOutcome text reach table = ofText text (λ set. checkOutcome set reach 
 
 -- ── What they mean ───────────────────────────────────────────────────────────────────────────────
 
--- Of a refused text its own refusal, and no length or zeros; of any other what the call on its set means. No entry gives 7: a set that was read is valid.
+-- 1 to 4 are the text's faults. Of a refused text its own refusal, and no length or zeros; of any other what the call
+-- on its set means. No entry gives 7: a set that was read is valid.
 
 pub record TextSizeMeaning (text : List ℕ) (reach : ℕ) (answer : TableSize) : Type 0 where
+  pub judged : TextJudged text (answer .outcome)
   pub refusedText : reading text .outcome ≢ 0 → (answer .outcome ≡ reading text .outcome) × (answer .length ≡ 0)
   pub readText : reading text .outcome ≡ 0 → SizeMeaning (reading text .set) reach answer
   pub never7 : answer .outcome ≢ 7
 
 pub record TextBuildMeaning (text : List ℕ) (reach size outcome : ℕ) (table : List ℕ) : Type 0 where
+  pub judged : TextJudged text outcome
   pub refusedText : reading text .outcome ≢ 0 → (outcome ≡ reading text .outcome) × (table ≡ replicate size 0)
   pub readText : reading text .outcome ≡ 0 → BuildMeaning (reading text .set) reach size outcome table
   pub never7 : outcome ≢ 7
 
 pub record TextCheckMeaning (text : List ℕ) (reach : ℕ) (table : List ℕ) (outcome : ℕ) : Type 0 where
+  pub judged : TextJudged text outcome
   pub refusedText : reading text .outcome ≢ 0 → outcome ≡ reading text .outcome
   pub readText : reading text .outcome ≡ 0 → CheckMeaning (reading text .set) reach table outcome
   pub never7 : outcome ≢ 7

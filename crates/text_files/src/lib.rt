@@ -8,9 +8,10 @@ ghost use Rattle.planner_spec.specs.Rewriting.{rewritten, rewrittenBuffer, Rewr
 // Reads a rule file and writes it again; zeros alone when refused.
 pub fn rewrite(text: &[u8], out: &mut [u8]) -> Written
     ensures { λ r. ⌜
-        (r ≡ rewritten (now (text .entry)) (length (now (out .entry))))
-        × (now (out .exit) ≡ rewrittenBuffer (now (text .entry)) (length (now (out .entry))))
-        × RewriteMeaning (now (text .entry)) (length (now (out .entry))) r (now (out .exit)) ⌝ }
+        (let room = length (now (out .entry)) in
+        (r ≡ rewritten (now (text .entry)) room)
+        × (now (out .exit) ≡ rewrittenBuffer (now (text .entry)) room)
+        × RewriteMeaning (now (text .entry)) room r (now (out .exit))) ⌝ }
 {
     let file = reader::read(text);
     let refusal = file.outcome;

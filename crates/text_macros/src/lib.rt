@@ -3,8 +3,14 @@ use buffers::fill_from;
 use macros_spec::Macro;
 use reader::read;
 ghost use mathlib.Core.Path.{_≡_};
+ghost use mathlib.Core.Bool.{not};
+ghost use mathlib.Core.List.{[], _∷_};
+ghost use Prim.Native.Nat.{_≤_};
+ghost use lib.Dec.{ltb, eqb};
 ghost use lib.ListN.{length, getD};
-ghost use Rattle.planner_spec.specs.TextMacro.{macroBytes, macroBuffer, textMacro, TextMacroMeaning};
+ghost use Rattle.theory_spec.specs.Lists.{padded};
+ghost use Rattle.model_spec.specs.Refusals.{firstRefusal};
+ghost use Rattle.planner_spec.specs.TextMacro.{macroBytes, macroSize, textMacro, macroBuffer, TextMacroMeaning};
 
 // Byte i of a macro: condition, effect, and the cost, low byte first; 0 beyond them.
 fn macro_byte(m: Macro, i: usize) -> u8
@@ -27,9 +33,10 @@ fn macro_byte(m: Macro, i: usize) -> u8
     0
 }
 
-// Puts the bytes of a macro into the buffer, as many as it has room for, and zeros after them.
+// Puts the bytes of a macro into the buffer, and zeros after them.
 fn put_macro(m: Macro, out: &mut [u8])
-    ensures { λ _. ⌜ now (out .exit) ≡ macroBuffer (length (now (out .entry))) m ⌝ }
+    requires { ⌜ macroSize ≤ length (now out) ⌝ }
+    ensures { λ _. ⌜ now (out .exit) ≡ padded (length (now (out .entry))) 0 (macroBytes m) ⌝ }
 {
     let mut i: usize = 0;
     while i < out.len() {
@@ -38,20 +45,39 @@ fn put_macro(m: Macro, out: &mut [u8])
     }
 }
 
-// The macro of a sequence of rule numbers, as bytes; zeros when refused.
+// The outcome of a call whose macro is to stand in a buffer of so many bytes: last of all, 8 where they are too few.
+fn fitted(outcome: u8, room: usize) -> u8
+    ensures { λ r. ⌜
+        r ≡ firstRefusal ((outcome, not (eqb outcome 0)) ∷ (8, ltb room macroSize) ∷ []) ⌝ }
+{
+    if 34 <= room {
+        return outcome;
+    }
+    if outcome == 0 {
+        return 8;
+    }
+    outcome
+}
+
+// The macro of a sequence of rule numbers, as bytes; zeros when refused, also where the buffer is too short.
 pub fn macro_of(text: &[u8], moves: &[u8], out: &mut [u8]) -> u8
     ensures { λ r. ⌜
-        (r ≡ textMacro (now (text .entry)) (now (moves .entry)) .outcome)
-        × (now (out .exit)
-        ≡ macroBuffer (length (now (out .entry))) (textMacro (now (text .entry)) (now (moves .entry)) .result))
-        × TextMacroMeaning (now (text .entry)) (now (moves .entry)) (length (now (out .entry))) r (now (out .exit)) ⌝ }
+        (let room = length (now (out .entry)) in
+        let answer = textMacro (now (text .entry)) (now (moves .entry)) room in
+        (r ≡ answer .outcome)
+        × (now (out .exit) ≡ macroBuffer room answer)
+        × TextMacroMeaning (now (text .entry)) (now (moves .entry)) room r (now (out .exit))) ⌝ }
 {
+    fill_from(out, 0, 0);
     let file = read(text);
     if file.outcome != 0 {
-        fill_from(out, 0, 0);
         return file.outcome;
     }
     let answer = macros::macro_of(file.set, moves);
+    let refusal = fitted(answer.outcome, out.len());
+    if refusal != 0 {
+        return refusal;
+    }
     put_macro(answer.result, out);
-    answer.outcome
+    0
 }

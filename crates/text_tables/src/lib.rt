@@ -4,7 +4,8 @@ use reader::read;
 use tables_spec::TableSize;
 ghost use mathlib.Core.Path.{_≡_};
 ghost use lib.ListN.{length};
-ghost use Rattle.planner_spec.specs.TextTables.{textTableSize, textBuildOutcome, textBuiltBuffer, textCheckOutcome, TextSizeMeaning, TextBuildMeaning, TextCheckMeaning};
+ghost use Rattle.planner_spec.specs.TextTables.{textTableSize, textBuildOutcome, textBuiltBuffer, textCheckOutcome};
+ghost use Rattle.planner_spec.specs.TextTables.{TextSizeMeaning, TextBuildMeaning, TextCheckMeaning};
 
 // How long a table is; a refused text has no length.
 pub fn table_size(text: &[u8], reach: usize) -> TableSize
@@ -25,9 +26,10 @@ pub fn table_size(text: &[u8], reach: usize) -> TableSize
 // Builds the table, or zeroes it.
 pub fn build_table(text: &[u8], reach: usize, table: &mut [u8]) -> u8
     ensures { λ r. ⌜
-        (r ≡ textBuildOutcome (now (text .entry)) reach (length (now (table .entry))))
-        × (now (table .exit) ≡ textBuiltBuffer (now (text .entry)) reach (length (now (table .entry))))
-        × TextBuildMeaning (now (text .entry)) reach (length (now (table .entry))) r (now (table .exit)) ⌝ }
+        (let size = length (now (table .entry)) in
+        (r ≡ textBuildOutcome (now (text .entry)) reach size)
+        × (now (table .exit) ≡ textBuiltBuffer (now (text .entry)) reach size)
+        × TextBuildMeaning (now (text .entry)) reach size r (now (table .exit))) ⌝ }
 {
     let file = read(text);
     if file.outcome != 0 {
