@@ -54,7 +54,7 @@ enum planner_outcome {
     PLANNER_BAD_REACH = 5,           /* the reach is not 1 to PLANNER_MAX_REACH */
     PLANNER_BAD_TABLE_LENGTH = 6,    /* the table's length is not planner_table_size's */
     PLANNER_INVALID_RULE_SET = 7,    /* no entry gives it: a set that was read is valid */
-    PLANNER_SHORT_TEXT_BUFFER = 8,   /* the text buffer is shorter than the file */
+    PLANNER_SHORT_TEXT_BUFFER = 8,   /* the buffer is shorter than the file, or than a macro */
     PLANNER_BAD_START = 9,           /* the start has a wrong length or a value not below its size */
     PLANNER_BAD_GOAL = 10,           /* the goal likewise, save PLANNER_ANY */
     PLANNER_TOO_MANY_MOVES = 11,     /* more than PLANNER_MAX_MOVES moves */
@@ -119,8 +119,8 @@ uint8_t planner_check_table(const uint8_t *rules, size_t rules_length, const uin
                             size_t reach);
 
 /* The macro of a sequence of at most PLANNER_MAX_MOVES rule numbers, from 1, one byte each.
- * Outcomes, in this order: 1 to 4, 11, 13, 17, 0.
- * out gets its PLANNER_MACRO_SIZE bytes, as many as it has room for, and zeros after them; zeros when refused. */
+ * Outcomes, in this order: 1 to 4, 11, 13, 17, 8 (out is shorter than PLANNER_MACRO_SIZE), 0.
+ * With outcome 0 out holds the macro's PLANNER_MACRO_SIZE bytes and zeros after them, else zeros. */
 uint8_t planner_macro(const uint8_t *rules, size_t rules_length, const uint8_t *moves, size_t moves_length,
                       uint8_t *out, size_t out_length);
 

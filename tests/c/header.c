@@ -82,6 +82,11 @@ static void macros(void)
     memset(out, 7, sizeof out);
     uint8_t outcome = planner_macro(rules, RULES_LENGTH, both, 2, out, sizeof out);
     expect("planner_macro", outcome == PLANNER_OK && holds(out, sizeof out, whole, sizeof whole, 0));
+    outcome = planner_macro(rules, RULES_LENGTH, both, 2, out, PLANNER_MACRO_SIZE);
+    expect("planner_macro into 34", outcome == PLANNER_OK && holds(out, PLANNER_MACRO_SIZE, whole, sizeof whole, 0));
+    outcome = planner_macro(rules, RULES_LENGTH, both, 2, out, PLANNER_MACRO_SIZE - 1);
+    expect("planner_macro into 33",
+           outcome == PLANNER_SHORT_TEXT_BUFFER && holds(out, PLANNER_MACRO_SIZE - 1, NULL, 0, 0));
     outcome = planner_macro(rules, RULES_LENGTH, unknown, 2, out, sizeof out);
     expect("planner_macro of rule 3", outcome == PLANNER_UNKNOWN_MOVE && holds(out, sizeof out, NULL, 0, 0));
 }

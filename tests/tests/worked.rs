@@ -32,15 +32,18 @@ fn line(shown: &str) -> Vec<u8> {
 
 fn macro_is(rules: &str, moves: &[u8], condition: &str, effect: &str, cost: u16) {
     let whole = [line(condition), line(effect), cost.to_le_bytes().to_vec()].concat();
-    for out_length in [34, 0, 1, 16, 33, 35, 50] {
+    for out_length in [34, 35, 50] {
         let mut buffer = whole.clone();
         buffer.resize(out_length, 0);
         gives(&Call::Macro { rules: file(rules), moves: moves.to_vec(), out_length }, 0, buffer);
     }
+    for out_length in [0, 1, 16, 33] {
+        gives(&Call::Macro { rules: file(rules), moves: moves.to_vec(), out_length }, 8, vec![0; out_length]);
+    }
 }
 
 fn macro_refused(rules: &str, moves: &[u8], outcome: u64) {
-    for out_length in [34, 0, 40] {
+    for out_length in [34, 0, 33, 40] {
         gives(&Call::Macro { rules: file(rules), moves: moves.to_vec(), out_length }, outcome, vec![0; out_length]);
     }
 }
@@ -200,7 +203,7 @@ fn composition() {
     // the effects as they stood before a variable was replaced would miss that 0 and 1 are asked of one value
     macro_refused("positions=3/sizes=4,4,4/rules=1/cost=1/if=0,1,x3/then=x3,x3,3/", &[1, 1], 17);
     macro_refused(H, &[1, 1], 17);
-    // Macro: 7, 11, 13, 17
+    // Macro: 7, 11, 13, 17, before a buffer that is too short
     macro_refused(H, &[1, 1, 5], 13);
     macro_refused(H, &[0], 13);
     macro_refused(H, &[255; 33], 11);

@@ -5,7 +5,8 @@ use super::model::{Entry, Set};
 use super::symbolic::Run;
 use crate::calls::Answer;
 
-/// "Macro: 7, 11, 13, 17." The bytes are the header's: condition 16, effect 16, cost 2; as many as there is room for, and zeros after them.
+/// "Macro: 7, 11, 13, 17." The bytes are the header's: condition 16, effect 16, cost 2, and zeros after them. A buffer
+/// that is shorter gives 8, last of all, and zeros throughout.
 pub fn macro_of(set: &Set, moves: &[u8], out_length: usize) -> Answer {
     let zeros = vec![0; out_length];
     if moves.len() > 32 {
@@ -17,6 +18,9 @@ pub fn macro_of(set: &Set, moves: &[u8], out_length: usize) -> Answer {
     let Some(run) = Run::of(set, moves) else {
         return bare(17, zeros);
     };
+    if out_length < 16 + 16 + 2 {
+        return bare(8, zeros);
+    }
     let rule = run.as_rule(set.cost(moves));
     let mut buffer = [sixteen(&rule.condition), sixteen(&rule.effect), (rule.cost as u16).to_le_bytes().to_vec()].concat();
     buffer.resize(out_length, 0);
