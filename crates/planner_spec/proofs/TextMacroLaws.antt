@@ -74,6 +74,14 @@ module _ (set : RuleSet) (moves : List ℕ) (room : ℕ) where
   abbrev roomOutcome : ℕ
   roomOutcome = firstRefusal (roomCauses set moves room)
 
+  -- none of the reader's numbers
+  room-own : Own roomOutcome
+  unfolding roomCauses macroCauses
+  room-own =
+      own-refusal (roomCauses set moves room)
+      (omega arith, (omega arith, (omega arith, (omega arith, (omega arith, tt)))))
+
+  -- the call's outcome, then the room
   pub room-fitted : roomOutcome ≡ fitted (macroAnswer set moves .outcome) room
   unfolding roomCauses macroAnswer macroCauses
   room-fitted =
@@ -84,12 +92,6 @@ module _ (set : RuleSet) (moves : List ℕ) (room : ℕ) where
   pub room-same : roomOutcome ≡ macroAnswer set moves .outcome → macroWith set moves roomOutcome ≡ macroAnswer set moves
   unfolding macroAnswer
   room-same e = ap (macroWith set moves) e
-
-  room-own : Own roomOutcome
-  unfolding roomCauses macroCauses
-  room-own =
-      own-refusal (roomCauses set moves room)
-      (omega arith, (omega arith, (omega arith, (omega arith, (omega arith, tt)))))
 
   answer-never-8 : macroAnswer set moves .outcome ≢ 8
   unfolding macroAnswer macroCauses

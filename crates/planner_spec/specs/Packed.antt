@@ -1,4 +1,5 @@
--- The C entry of the search: it takes the rule text in place of a set, gives the answer as one 64-bit number, and has no tally.
+-- The C entry of the search: it takes the rule text in place of a set, gives the answer as one 64-bit number, and has
+-- no tally.
 use mathlib.Core.List.{List}
 use Prim.Native.Nat.{ℕ, _+_, _*_, _/_, _%_}
 use lib.ListN.{replicate}
@@ -17,7 +18,10 @@ unpacked n = record { outcome = n % 256; cost = n / 65536 % 65536; length = n / 
 
 -- what a refused rule text leaves: its outcome, no cost, no length, no steps, and a blank plan buffer
 unfoldable pub textRefused : ℕ → ℕ → Searched
-textRefused outcome room = record { answer = record { outcome = outcome; cost = 0; length = 0; steps = 0 }; plan = replicate room noMove }
+textRefused outcome room = record {
+  answer = record { outcome = outcome; cost = 0; length = 0; steps = 0 };
+  plan = replicate room noMove;
+}
 
 -- the search of a rule text: 1 to 4 of the text come before all else
 unfoldable pub searchedText : List ℕ → Query → ℕ → Searched

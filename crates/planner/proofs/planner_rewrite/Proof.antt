@@ -18,7 +18,8 @@ same-length c = search needs
 returns : tie.Need-returns
 returns c =
     let call = c .before .before .before in
-    let s = call .before .before .before .before .args in
+    let known = call .before .before in
+    let s = known .before .before .args in
     let again = call .rewrite .ensures in
     let packs = c .pack-length .ensures in
     let told = rewrite-packed (s .text .now) (length (s .out .now)) _ _ (again .0) (again .2) _ packs in

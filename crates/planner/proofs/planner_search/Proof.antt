@@ -13,6 +13,13 @@ queryOf s =
     let a = s .args in
     asked (a .reach) (a .table .now) (a .start .now) (a .goal .now) (a .max-moves) (a .max-cost) (a .step-limit)
 
+-- places
+abbrev knownOf : tie.After-search-text → tie.After-shared-slice-known4
+knownOf c = c .before .before .before
+
+abbrev startOf : tie.After-shared-slice-known4 → tie.Start
+startOf c = let earlier = c .before .before in earlier .before .before
+
 search-text-requires : tie.Need-search-text-requires
 search-text-requires c κs = search needs
 
@@ -25,8 +32,9 @@ same-length c = search needs
 returns : tie.Need-returns
 returns c =
     let call = c .before .before .before in
-    let s = call .before .before .before .before .before .before .before in
-    search-packed (s .args .rules .now) (queryOf s) (length (s .args .plan .now)) (search needs) _ (call .search-text .ensures .0) _ (c .pack .ensures)
+    let s = startOf (knownOf call) in
+    search-packed (s .args .rules .now) (queryOf s) (length (s .args .plan .now)) (search needs) _
+    (call .search-text .ensures .0) _ (c .pack .ensures)
 
 pub planner-search-spec : {M : Type 1} → statement M
 planner-search-spec = tie.close (tie.spec search-text-requires pack-requires same-length returns)
