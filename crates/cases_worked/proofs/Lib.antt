@@ -2,3 +2,4 @@ pub mod Small
 pub mod Files
 pub mod Worked
 pub mod Further
+pub mod Entries
