@@ -65,7 +65,9 @@ fn leading_number(text: &[u8]) -> Number
 
 // Puts the numbers of a line into a buffer, as many as it has room for.
 fn leading_line(text: &[u8], numbers: &mut [u8]) -> Line
-    ensures { λ r. ⌜ (r .count ≤ length (now (numbers .entry))) × (r .size ≤ length (now (text .entry))) ⌝ }
+    ensures { λ r. ⌜
+        (r .count ≤ length (now (numbers .entry)))
+        × (r .size ≤ length (now (text .entry))) ⌝ }
 {
     let mut count: usize = 0;
     let mut size: usize = 0;

@@ -105,11 +105,12 @@ pub extern "C" fn planner_search(
 ) -> u64
     ensures { λ r. ⌜
         (let query = asked reach (now (table .entry)) (now (start .entry)) (now (goal .entry))
-        «max_moves» «max_cost» «step_limit» (length (now (plan .entry))) in
+        «max_moves» «max_cost» «step_limit» in
+        let room = length (now (plan .entry)) in
         let found : Searched = record { answer = unpacked r; plan = now (plan .exit) } in
-        (r ≡ packedSearch (now (rules .entry)) query)
-        × (now (plan .exit) ≡ searchedText (now (rules .entry)) query .plan)
-        × TextSearchMeaning (now (rules .entry)) query found) ⌝ }
+        (r ≡ packedSearch (now (rules .entry)) query room)
+        × (now (plan .exit) ≡ searchedText (now (rules .entry)) query room .plan)
+        × TextSearchMeaning (now (rules .entry)) query room found) ⌝ }
 {
     let answer = search_text(
         rules,
