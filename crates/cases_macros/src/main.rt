@@ -13,8 +13,9 @@ use libc::STDIN_FILENO;
 use libc::STDOUT_FILENO;
 use macros_spec::Macro;
 use macros_spec::Vectors;
-use model_spec::Rule;
 use model_spec::RuleSet;
+use moves::cost_of;
+use moves::rule_at;
 ghost use Prim.Native.Nat.{_≤_};
 ghost use lib.ListN.{length};
 
@@ -152,47 +153,25 @@ fn print_macro(set: RuleSet, text: &[u8]) {
     print_blank(answer.result);
 }
 
-// The rule of a number from 1 to 31; rule 31 for another number.
-fn rule_of(set: RuleSet, number: u8) -> Rule {
-    if number < 1 {
-        return set.rules[30];
-    }
-    if 31 < number {
-        return set.rules[30];
-    }
-    let place = (number - 1) as usize;
-    set.rules[place]
-}
-
 // The vectors of a sequence.
 fn composed(set: RuleSet, moves: &[u8]) -> Vectors {
     let mut sequence = composition::empty(set);
     for i in 0..moves.len() {
-        let rule = rule_of(set, moves[i]);
+        let rule = rule_at(set, moves[i]);
         sequence = composition::extended(sequence, rule);
     }
     sequence
 }
 
-// The cost of a sequence.
-fn cost_of(set: RuleSet, moves: &[u8]) -> u16
-    requires { ⌜ length (now moves) ≤ 64 ⌝ }
-{
-    let mut total: u16 = 0;
-    for i in 0..moves.len() {
-        let rule = rule_of(set, moves[i]);
-        let cost = rule.cost as u16;
-        total += cost;
-    }
-    total
+// A cost in 16 bits. At most 64 moves cost at most 16,320.
+fn in_16_bits(cost: u32) -> u16 {
+    if cost < 65536 { cost as u16 } else { 65535 }
 }
 
 // Whether a sequence is redundant with another.
-fn print_redundancy(set: RuleSet, moves: &[u8], witness: &[u8])
-    requires { ⌜ length (now moves) ≤ 64 ⌝ }
-{
+fn print_redundancy(set: RuleSet, moves: &[u8], witness: &[u8]) {
     let sequence = composed(set, moves);
-    let cost = cost_of(set, moves);
+    let cost = in_16_bits(cost_of(set, moves));
     if redundancy::is_redundant(set, sequence, cost, witness) {
         print(b"yes");
         return;

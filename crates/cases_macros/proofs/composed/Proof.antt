@@ -18,11 +18,11 @@ empty-requires c κs = search needs
 loop-holds : tie.Need-loop-holds Inv-loop μ-loop
 loop-holds c = search needs
 
-shared-slice-read-rule-of : tie.Need-shared-slice-read-rule-of Inv-loop μ-loop
-shared-slice-read-rule-of c = search needs
+shared-slice-read-rule-at : tie.Need-shared-slice-read-rule-at Inv-loop μ-loop
+shared-slice-read-rule-at c = search needs
 
-rule-of-requires : tie.Need-rule-of-requires Inv-loop μ-loop
-rule-of-requires c κs = search needs
+rule-at-requires : tie.Need-rule-at-requires Inv-loop μ-loop
+rule-at-requires c κs = search needs
 
 extended-requires : tie.Need-extended-requires Inv-loop μ-loop
 extended-requires c κs = search needs
@@ -47,8 +47,8 @@ composed-spec =
     μ-loop
     empty-requires
     loop-holds
-    shared-slice-read-rule-of
-    rule-of-requires
+    shared-slice-read-rule-at
+    rule-at-requires
     extended-requires
     add-i
     loop-less
