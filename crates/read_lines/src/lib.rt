@@ -42,9 +42,9 @@ fn list_item(
 ) -> Found
     requires { ⌜ (positions ≤ 16) × (i < 16) ⌝ }
     ensures { λ r. ⌜
-        itemOf line positions (now (sizes .entry)) (now (condition .entry)) (take i before) end
-        (drop at (now (text .entry)))
-        ≡ found (r .outcome) (r .value) (r .next) (now (text .entry)) ⌝ }
+        (let item = itemOf line positions (now (sizes .entry)) (now (condition .entry)) in
+        item (take i before) end (drop at (now (text .entry)))
+        ≡ found (r .outcome) (r .value) (r .next) (now (text .entry))) ⌝ }
 {
     match line {
         Line::Sizes => number_within(text, at, 2, 16, end),
@@ -53,7 +53,7 @@ fn list_item(
     }
 }
 
-// A line with a key and a list of items, one for each position, at most sixteen.
+// A line with a key and a list of items, one for each of at most sixteen positions.
 pub fn list_line(
     text: &[u8],
     at: usize,
@@ -65,8 +65,8 @@ pub fn list_line(
 ) -> FoundLine
     ensures { λ r. ⌜
         (let count = min positions 16 in
-        keyedList (now (key .entry)) (itemOf line count (now (sizes .entry)) (now (condition .entry))) count
-        (drop at (now (text .entry)))
+        let item = itemOf line count (now (sizes .entry)) (now (condition .entry)) in
+        keyedList (now (key .entry)) item count (drop at (now (text .entry)))
         ≡ found (r .outcome) (r .entries) (r .next) (now (text .entry))) ⌝ }
 {
     let held = at_most(positions, 16);

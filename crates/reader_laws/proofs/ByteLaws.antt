@@ -28,14 +28,19 @@ module _ (word text : List ℕ) (i n : ℕ) where
   word-cut h k = rw (drop-cons word i 0 h, drop-of-length-le text {i = n} k)
 
   -- another byte stands there
-  pub word-other : i < length word → n < length text → getD text n 0 ≢ getD word i 0 → literal (drop i word) (drop n text) ≡ refused 1
+  pub word-other : i < length word → n < length text → getD text n 0 ≢ getD word i 0
+      → literal (drop i word) (drop n text) ≡ refused 1
   unfolding literal
-  word-other h k d = rw (drop-cons word i 0 h, drop-cons text n 0 k, ne-eqb (getD word i 0) (getD text n 0) (λ e. d (sym e)))
+  word-other h k d =
+      rw (drop-cons word i 0 h, drop-cons text n 0 k, ne-eqb (getD word i 0) (getD text n 0) (λ e. d (sym e)))
 
   -- the byte stands there
-  pub word-more : i < length word → n < length text → getD text n 0 ≡ getD word i 0 → literal (drop i word) (drop n text) ≡ literal (drop (i + 1) word) (drop (n + 1) text)
+  pub word-more : i < length word → n < length text → getD text n 0 ≡ getD word i 0
+      → literal (drop i word) (drop n text) ≡ literal (drop (i + 1) word) (drop (n + 1) text)
   unfolding literal
-  word-more h k e = rw (add-one i, add-one n, drop-cons word i 0 h, drop-cons text n 0 k, eq-eqb (getD word i 0) (getD text n 0) (sym e))
+  word-more h k e =
+      let same = eq-eqb (getD word i 0) (getD text n 0) (sym e) in
+      rw (add-one i, add-one n, drop-cons word i 0 h, drop-cons text n 0 k, same)
 
 -- ── The digits at the place n of a text ──────────────────────────────────────────────────────────
 
@@ -51,14 +56,20 @@ module _ (text : List ℕ) (n : ℕ) where
   digits-other h t = rw (drop-cons text n 0 h, t)
 
   -- a digit, and those after it
-  pub digits-more : n < length text → isDigit (getD text n 0) ≡ true → digits (drop n text) ≡ getD text n 0 ∷ digits (drop (n + 1) text)
+  pub digits-more : n < length text → isDigit (getD text n 0) ≡ true
+      → digits (drop n text) ≡ getD text n 0 ∷ digits (drop (n + 1) text)
   unfolding digits
   digits-more h t = rw (add-one n, drop-cons text n 0 h, t)
 
   -- where there is one, the byte there is one, and the first
   pub digits-some : 0 < length (digits (drop n text))
-      → (n < length text) × (48 ≤ getD text n 0) × (getD text n 0 ≤ 57) × (digits (drop n text) ≡ getD text n 0 ∷ digits (drop (n + 1) text))
+      → (n < length text) × (48 ≤ getD text n 0) × (getD text n 0 ≤ 57)
+      × (digits (drop n text) ≡ getD text n 0 ∷ digits (drop (n + 1) text))
   digits-some h =
-      ⊎-elim (λ k. ⊎-elim (λ t. let r = within-iff 48 57 (getD text n 0) .0 t in (k, r .0, r .1, digits-more k t)) (λ t. absurd (omega (arith, ap length (digits-other k t)))) (passes? (isDigit (getD text n 0))))
+      ⊎-elim
+      (λ k.
+      ⊎-elim (λ t. let r = within-iff 48 57 (getD text n 0) .0 t in (k, r .0, r .1, digits-more k t))
+      (λ t. absurd (omega (arith, ap length (digits-other k t))))
+      (passes? (isDigit (getD text n 0))))
       (λ k. absurd (omega (arith, ap length (digits-none k))))
       (below? n (length text))

@@ -15,7 +15,8 @@ use Rattle.model_spec.specs.declared.RuleSet.{RuleSet}
 use Rattle.files_spec.specs.Reading.{parsed, fileLines, reading}
 use Rattle.reader_laws.specs.how.Found.{found}
 use Rattle.files_spec.proofs.FileLaws.{file-read}
-use Rattle.files_spec.proofs.ReadingLaws.{line-refused, left-over, at-end, Ends, inLine, tooLong, duplicated, accepted, reading-ends}
+use Rattle.files_spec.proofs.ReadingLaws.{line-refused, left-over, at-end}
+use Rattle.files_spec.proofs.ReadingLaws.{Ends, inLine, tooLong, duplicated, accepted, reading-ends}
 use Rattle.files_spec.proofs.LineFaultLaws.{lines-limits}
 use Rattle.files_spec.proofs.RefusedLaws.{reading-refused}
 use Rattle.reader_laws.proofs.FoundLaws.{found-refused, found-parsed, found-value}
@@ -27,12 +28,15 @@ module _ (o : ℕ) (text : List ℕ) (set : RuleSet) (next : ℕ) (lines : fileL
 
   -- bytes are left over
   pub outcome-left : o ≡ 0 → next < length text → reading text .outcome ≡ 1
-  outcome-left h k = ap (λ r. r .outcome) (left-over text set _ _ (lines ∙ found-parsed set next text h ∙ ap (parsed set) (drop-cons text next 0 k)))
+  outcome-left h k =
+      ap (λ r. r .outcome)
+      (left-over text set _ _ (lines ∙ found-parsed set next text h ∙ ap (parsed set) (drop-cons text next 0 k)))
 
   -- the text was read to its end
   module _ (h : o ≡ 0) (k : length text ≤ next) {r : Bool} (v : r ≡ valid set) where
     -- what is left is to judge duplicates
-    judged : {d : Bool} → hasDuplicates (set .rules) (set .count) ≡ d → reading text ≡ cond d (record { outcome = 4; set = emptySet }) (record { outcome = 0; set = set })
+    judged : {d : Bool} → hasDuplicates (set .rules) (set .count) ≡ d
+        → reading text ≡ cond d (record { outcome = 4; set = emptySet }) (record { outcome = 0; set = set })
     judged = at-end text set (lines ∙ found-parsed set next text h ∙ ap (parsed set) (drop-of-length-le text k))
 
     -- and what was read is valid exactly if it has none
@@ -42,11 +46,15 @@ module _ (o : ℕ) (text : List ℕ) (set : RuleSet) (next : ℕ) (lines : fileL
 
     -- it has some
     pub outcome-duplicates : not r ≡ true → reading text .outcome ≡ 4
-    outcome-duplicates n = ap (λ a. a .outcome) (judged (not-false (hasDuplicates (set .rules) (set .count)) (sym only-duplicates ∙ not-true r n)))
+    outcome-duplicates n =
+        ap (λ a. a .outcome)
+        (judged (not-false (hasDuplicates (set .rules) (set .count)) (sym only-duplicates ∙ not-true r n)))
 
     -- it has none
     pub outcome-none : not r ≡ false → reading text .outcome ≡ 0
-    outcome-none n = ap (λ a. a .outcome) (judged (not-true (hasDuplicates (set .rules) (set .count)) (sym only-duplicates ∙ not-false r n)))
+    outcome-none n =
+        ap (λ a. a .outcome)
+        (judged (not-true (hasDuplicates (set .rules) (set .count)) (sym only-duplicates ∙ not-false r n)))
 
   -- a text with outcome 0 gives the set that was read
   pub set-read : reading text .outcome ≡ 0 → reading text ≡ record { outcome = 0; set = set }
@@ -56,8 +64,10 @@ module _ (o : ℕ) (text : List ℕ) (set : RuleSet) (next : ℕ) (lines : fileL
       go (inLine n e r) = absurd (omega (arith, ap (λ r. r .outcome) r, lines-limits text n e))
       go (tooLong s b rest e r) = absurd (omega (arith, ap (λ r. r .outcome) r))
       go (duplicated s e d r) = absurd (omega (arith, ap (λ r. r .outcome) r))
-      go (accepted s e d r) = r ∙ ap (λ s. record { outcome = 0; set = s }) (found-value o set next text (sym lines ∙ e))
+      go (accepted s e d r) =
+          r ∙ ap (λ s. record { outcome = 0; set = s }) (found-value o set next text (sym lines ∙ e))
 
 -- a refused text gives the empty set
-pub none-read : (text : List ℕ) → reading text .outcome ≢ 0 → reading text ≡ record { outcome = reading text .outcome; set = emptySet }
+pub none-read : (text : List ℕ) → reading text .outcome ≢ 0
+    → reading text ≡ record { outcome = reading text .outcome; set = emptySet }
 none-read text h = ap (λ s. record { outcome = reading text .outcome; set = s }) (reading-refused text h)

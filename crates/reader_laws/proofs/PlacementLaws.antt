@@ -29,7 +29,8 @@ use Rattle.files_spec.specs.Reading.{
 }
 use Rattle.reader_laws.specs.how.Found.{found}
 use Rattle.reader_laws.specs.how.Parts.{conditionEntry, effectEntry}
-use Rattle.reader_laws.proofs.FoundLaws.{found-refused, found-parsed, unless-failed, unless-passed, unless-refused}
+use Rattle.reader_laws.proofs.FoundLaws.{found-refused, found-parsed}
+use Rattle.reader_laws.proofs.FoundLaws.{unless-failed, unless-passed, unless-refused}
 
 -- a place up to i is looked at in the first i + 1 places
 look-front : (l : List ℕ) (i j e : ℕ) → (leb j i && eqb (getD (take (suc i) l) j 0) e) ≡ (leb j i && eqb (getD l j 0) e)
@@ -41,11 +42,13 @@ look-front l i j e = go (leb j i) refl
 
 module _ (positions : ℕ) (sizes : List ℕ) where
   -- an entry is placed after the first i places as it is in the array that has it at i
-  placed-front : (l : List ℕ) (i e : ℕ) → i < length l → conditionPlaced positions sizes (take i l ++ (e ∷ [])) i e ≡ conditionPlaced positions sizes (set l i e) i e
+  placed-front : (l : List ℕ) (i e : ℕ) → i < length l
+      → conditionPlaced positions sizes (take i l ++ (e ∷ [])) i e ≡ conditionPlaced positions sizes (set l i e) i e
   unfolding conditionPlaced
   placed-front l i e h =
       ap (λ c. conditionPlaced positions sizes c i e) (sym (take-suc-set l i e h))
-      ∙ ap (λ b. isConstant e || (eqb (width positions sizes (variablePlace e)) (width positions sizes i) && b)) (look-front (set l i e) i (variablePlace e) e)
+      ∙ ap (λ b. isConstant e || (eqb (width positions sizes (variablePlace e)) (width positions sizes i) && b))
+      (look-front (set l i e) i (variablePlace e) e)
 
   -- an entry of an `if` line after the first i of an array
   pub condition-at : (before : List ℕ) (i ending : ℕ) (text : List ℕ) → positions ≤ 16 → i < length before

@@ -40,7 +40,8 @@ unfolding conditionEntry
 returns-2 c =
     let array = arrayOf (c .before) in
     let e = array .before .before in
-    entry-misplaced (placed e) _ _ (e .before .before .args .text .now) (e .entry .ensures) _ _ (array .before .if1 .left)
+    entry-misplaced (placed e) _ _ (e .before .before .args .text .now) (e .entry .ensures) _ _
+    (array .before .if1 .left)
     (rw (array .with-entry .ensures) at (c .before .condition-placed .ensures)) (c .if2 .taken)
 
 returns-3 : tie.Need-returns-3

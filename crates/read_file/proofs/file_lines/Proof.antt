@@ -48,12 +48,15 @@ argOf c = c .before .before .before
 abbrev positionsOf : tie.After-list-line → tie.Else1
 positionsOf c = argOf c .before
 
+abbrev startOf : tie.After-number-line → tie.Start
+startOf c = c .before .before .before
+
 -- that line is read as it is
 sizes-read : (c : tie.After-list-line)
-    → let positions = positionsOf c .before in
-    let text = positions .before .before .before .args .text .now in
+    → let positions = positionsOf c .before .number-line .result in
+    let text = startOf (positionsOf c .before) .args .text .now in
     let r = c .list-line .result in
-    listLine "sizes=" sizeItem (positions .number-line .result .value) (drop (positions .number-line .result .next) text)
+    listLine "sizes=" sizeItem (positions .value) (drop (positions .next) text)
     ≡ found (r .outcome) (r .entries) (r .next) text
 unfolding listLine keyedList itemOf
 sizes-read c =
@@ -102,7 +105,8 @@ unfolding numberLine keyedNumber
 rule-list-requires c κs =
     let count = c .before .before in (
       positions-limit (positionsOf (sizesOf (count .before) .before)),
-      number-line-read "rules=" 1 31 _ _ _ (count .before .number-line2 .ensures ∙ found-parsed _ _ _ (count .if3 .left)) .1,
+      number-line-read "rules=" 1 31 _ _ _
+          (count .before .number-line2 .ensures ∙ found-parsed _ _ _ (count .if3 .left)) .1,
     )
 
 no-set-requires-4 : tie.Need-no-set-requires-4

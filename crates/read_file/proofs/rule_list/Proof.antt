@@ -51,7 +51,8 @@ rule-read c =
 returns : tie.Need-returns Inv-loop μ-loop
 returns c =
     let t = c .before .before in
-    fill-stop (rules-list _ _) (t .before .loop .inv) _ _ _ _ (t .loop-test .taken) (rule-read (c .before)) (c .if1 .taken)
+    fill-stop (rules-list _ _) (t .before .loop .inv) _ _ _ _ (t .loop-test .taken) (rule-read (c .before))
+    (c .if1 .taken)
 
 mul-rules : tie.Need-mul-rules Inv-loop μ-loop
 mul-rules c = search needs

@@ -1,4 +1,5 @@
--- What a function of the reader says of a text. No answer mentions it: it ties the functions to the definitions of Reading.
+-- What a function of the reader says of a text. No answer mentions it: it ties the functions to the definitions of
+-- Reading.
 use mathlib.Core.Bool.{cond}
 use mathlib.Core.List.{List}
 use Prim.Native.Nat.{ℕ}

@@ -3,9 +3,9 @@
 use mathlib.Core.List.{List, []}
 use Prim.Native.Nat.{ℕ, min}
 use lib.ListN.{set}
+use Rattle.theory_spec.specs.Lists.{padded}
 use Rattle.model_spec.specs.Validity.{conditionPlaced, effectPlaced}
 use Rattle.files_spec.specs.Text.{lineFeed}
-use Rattle.theory_spec.specs.Lists.{padded}
 use Rattle.files_spec.specs.Reading.{Parsed, parsed, andRead, refusedUnless, literal, numberWithin, entry}
 use Rattle.files_spec.specs.Reading.{Item, sizeItem, conditionItem, effectItem, itemsAfter}
 use Rattle.reader_laws.specs.declared.Line.{Line}
