@@ -75,10 +75,8 @@ module _
     turn : i < count → goes (item (count - 1 - i) (take i entries) (drop next text)) ≡ X
     turn h =
         let n : count - i ≡ suc (count - 1 - i) = omega arith in
-        sym (
-        ap (λ k. madeUp size blank (more k (take i entries) (drop next text))) n
-        ∙ ap (madeUp size blank) (list .next (count - 1 - i) (take i entries) (drop next text))
-        )
+        let first = list .next (count - 1 - i) (take i entries) (drop next text) in
+        sym (ap (λ k. madeUp size blank (more k (take i entries) (drop next text))) n ∙ ap (madeUp size blank) first)
         ∙ inv .left
 
     -- an item was found
