@@ -32,7 +32,9 @@ fn outcome_of(text: &[u8], file: FoundSet) -> u8
 
 // Reads a rule file: its set, or the first fault's number and the empty set.
 pub fn read(text: &[u8]) -> Reading
-    ensures { λ r. ⌜ (r ≡ reading (now (text .entry))) × ReadMeaning (now (text .entry)) r ⌝ }
+    ensures { λ r. ⌜
+        (r ≡ reading (now (text .entry)))
+        × ReadMeaning (now (text .entry)) r ⌝ }
 {
     let file = file_lines(text);
     let set = file.set;
