@@ -67,7 +67,9 @@ module _ (o : ℕ) (text : List ℕ) (set : RuleSet) (next : ℕ) (lines : fileL
       go (accepted s e d r) =
           r ∙ ap (λ s. record { outcome = 0; set = s }) (found-value o set next text (sym lines ∙ e))
 
--- a refused text gives the empty set
-pub none-read : (text : List ℕ) → reading text .outcome ≢ 0
-    → reading text ≡ record { outcome = reading text .outcome; set = emptySet }
-none-read text h = ap (λ s. record { outcome = reading text .outcome; set = s }) (reading-refused text h)
+-- a refused text gives its outcome and the empty set
+pub none-read : (text : List ℕ) (o : ℕ) (set : RuleSet) → o ≡ reading text .outcome → set ≡ emptySet → o ≢ 0
+    → reading text ≡ record { outcome = o; set = set }
+none-read text o set e s h =
+    rw (e, s)
+    (ap (λ s. record { outcome = reading text .outcome; set = s }) (reading-refused text (λ z. h (e ∙ z))))

@@ -26,15 +26,10 @@ empty-set-requires c κs = search needs
 outcome-of-requires : tie.Need-outcome-of-requires
 outcome-of-requires c κs = c .before .before .file-lines .ensures
 
-abbrev startOf : tie.After-set → tie.Start
-startOf c = c .before .before .before
-
 returns : tie.Need-returns
 returns c =
-    let text = startOf (c .before .before .before) .args .text .now in
-    let judged = c .before .outcome-of .ensures in
-    answers text _
-    (rw (judged, c .before .before .empty-set .ensures) (sym (none-read text (λ e. c .if1 .taken (judged ∙ e)))))
+    answers _ _
+    (sym (none-read _ _ _ (c .before .outcome-of .ensures) (c .before .before .empty-set .ensures) (c .if1 .taken)))
 
 returns-2 : tie.Need-returns-2
 returns-2 c =
