@@ -17,8 +17,12 @@ ghost use Rattle.tables_spec.specs.Answers.{shapeCauses, builtWith, buildOutcom
 // The entry that the builder gives the sequence of an index. A sequence is redundant with itself, so the search ends
 // there at the latest.
 fn entry_for(set: RuleSet, index: usize) -> usize
-    requires { ⌜ WellFormed set × (index < tableEntries set 3) ⌝ }
-    ensures { λ r. ⌜ (r ≡ builtEntry set 3 index) × (r < 65536) ⌝ }
+    requires { ⌜
+        WellFormed set
+        × (index < tableEntries set 3) ⌝ }
+    ensures { λ r. ⌜
+        (r ≡ builtEntry set 3 index)
+        × (r < 65536) ⌝ }
 {
     let own = profile_at(set, index);
     let found = smallest_witness(set, own.vectors, own.cost);
@@ -31,7 +35,10 @@ fn entry_for(set: RuleSet, index: usize) -> usize
 // Writes every entry, in order. `reach` is for the contract alone: a table of a smaller reach begins as that of reach 3
 // does.
 fn write_entries(set: RuleSet, reach: usize, table: &mut [u8])
-    requires { ⌜ WellFormed set × (reach ≤ 3) × (length (now table) ≡ 2 * tableEntries set reach) ⌝ }
+    requires { ⌜
+        WellFormed set
+        × (reach ≤ 3)
+        × (length (now table) ≡ 2 * tableEntries set reach) ⌝ }
     ensures { λ _. ⌜ now (table .exit) ≡ builtTable set reach ⌝ }
 {
     let count = table.len() / 2;
@@ -65,9 +72,10 @@ fn build_for(set: RuleSet, reach: usize, entries: &mut [u8]) -> u8
 // Builds the table of a rule set for a reach: each entry is the smallest witness of its sequence, or 65535.
 pub fn build_table(set: RuleSet, reach: usize, table: &mut [u8]) -> u8
     ensures { λ r. ⌜
-        (r ≡ buildOutcome set reach (length (now (table .entry))))
-        × (now (table .exit) ≡ builtBuffer set reach (length (now (table .entry))))
-        × BuildMeaning set reach (length (now (table .entry))) r (now (table .exit)) ⌝ }
+        (let size = length (now (table .entry)) in
+        (r ≡ buildOutcome set reach size)
+        × (now (table .exit) ≡ builtBuffer set reach size)
+        × BuildMeaning set reach size r (now (table .exit))) ⌝ }
 {
     if !is_valid(set) {
         fill_from(table, 0, 0);

@@ -154,7 +154,9 @@ fn mark(entry: usize) -> usize
 
 // What a mark adds to the sum.
 fn weight(index: usize, entry: usize) -> usize
-    requires { ⌜ (index < 32768) × (entry < 65536) ⌝ }
+    requires { ⌜
+        (index < 32768)
+        × (entry < 65536) ⌝ }
     ensures { λ r. ⌜ r ≤ 2147483648 ⌝ }
 {
     if entry == KEPT {

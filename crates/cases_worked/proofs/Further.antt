@@ -171,7 +171,8 @@ further-cases = refl
 
 -- ── Redundancy ───────────────────────────────────────────────────────────────────────────────────
 
--- with the empty sequence, by vectors: a swap is not, nor is rule 2, which does nothing in the state 0,0; a swap twice is
+-- with the empty sequence, by vectors: a swap is not, nor is rule 2, which does nothing in the state 0,0; a swap twice
+-- is
 pub redundancies : map
     (λ (q : List ℕ). redundantByLines swapped (composed swapped q) (sequenceCost swapped q) [])
     ((1 ∷ []) ∷ (2 ∷ []) ∷ (1 ∷ 1 ∷ []) ∷ [])

@@ -17,7 +17,9 @@ ghost use Rattle.tables_spec.specs.Answers.{markCauses, checkOutcome, CheckMean
 
 // Whether an entry keeps its sequence, or names a smaller index with whose sequence it is redundant.
 fn justified(set: RuleSet, table: &[u8], i: usize) -> bool
-    requires { ⌜ WellFormed set × (i < tableEntries set 3) ⌝ }
+    requires { ⌜
+        WellFormed set
+        × (i < tableEntries set 3) ⌝ }
     ensures { λ r. ⌜ r ≡ entryJustified set 3 (now (table .entry)) i ⌝ }
 {
     let entry = entry_at(table, i);
@@ -37,7 +39,10 @@ fn justified(set: RuleSet, table: &[u8], i: usize) -> bool
 // Whether every entry is justified. Entry 0 has no smaller index to name, so it has to be 65535. `reach` is for the
 // contract alone: the sequences of a table of a smaller reach are the first ones of reach 3.
 fn is_accepted(set: RuleSet, reach: usize, table: &[u8]) -> bool
-    requires { ⌜ WellFormed set × (reach ≤ 3) × (length (now table) ≡ 2 * tableEntries set reach) ⌝ }
+    requires { ⌜
+        WellFormed set
+        × (reach ≤ 3)
+        × (length (now table) ≡ 2 * tableEntries set reach) ⌝ }
     ensures { λ r. ⌜ r ≡ accepted set reach (now (table .entry)) ⌝ }
 {
     let count = table.len() / 2;

@@ -18,7 +18,9 @@ ghost use Rattle.macros_spec.specs.Answers.{sequenceCauses, blankMacro, macroWi
 
 // A refusal, with a macro of zeros.
 fn refused(outcome: u8) -> MacroAnswer
-    ensures { λ r. ⌜ (r .outcome ≡ outcome) × (r .result ≡ blankMacro) ⌝ }
+    ensures { λ r. ⌜
+        (r .outcome ≡ outcome)
+        × (r .result ≡ blankMacro) ⌝ }
 {
     MacroAnswer {
         outcome,
@@ -49,7 +51,8 @@ fn composed(set: RuleSet, moves: &[u8]) -> Vectors
 fn macro_for(set: RuleSet, moves: &[u8]) -> MacroAnswer
     requires { ⌜ WellFormed set ⌝ }
     ensures { λ r. ⌜
-        r ≡ macroWith set (now (moves .entry)) (firstRefusal (sequenceCauses set (now (moves .entry)))) ⌝ }
+        (let sequence = now (moves .entry) in
+        r ≡ macroWith set sequence (firstRefusal (sequenceCauses set sequence))) ⌝ }
 {
     if 32 < moves.len() {
         return refused(11);
@@ -77,8 +80,9 @@ fn macro_for(set: RuleSet, moves: &[u8]) -> MacroAnswer
 // The macro of a sequence of rule numbers.
 pub fn macro_of(set: RuleSet, moves: &[u8]) -> MacroAnswer
     ensures { λ r. ⌜
-        (r ≡ macroAnswer set (now (moves .entry)))
-        × Meaning set (now (moves .entry)) r ⌝ }
+        (let sequence = now (moves .entry) in
+        (r ≡ macroAnswer set sequence)
+        × Meaning set sequence r) ⌝ }
 {
     if !is_valid(set) {
         return refused(7);

@@ -1,5 +1,5 @@
--- The vectors of a sequence mean it, and vectors that mean it are its own. So those of the empty sequence mean the empty
--- sequence, and a rule after vectors means the longer one.
+-- The vectors of a sequence mean it, and vectors that mean it are its own. So those of the empty sequence mean the
+-- empty sequence, and a rule after vectors means the longer one.
 -- Assumes nothing.
 use mathlib.Core.Path.{_≡_, refl, sym, ap, _∙_, subst}
 use mathlib.Core.Bool.{Bool, true, false, true≢false, false≢true}
@@ -48,7 +48,8 @@ module _ (set : RuleSet) (formed : WellFormed set) (q : Sequence) (h : Numbered 
       go true e none k = absurd (not-both e (w .denied .1 (denied-iff set formed q h .0 k)))
       go true e (some m) k =
           let one = means-unique set formed q _ _ (w .means e) (composed-means set formed q h m k) in
-          rw e (ap {B = Option Lines} (λ (n : Macro). some (record { condition = n .condition; effect = n .effect })) one)
+          rw e
+          (ap {B = Option Lines} (λ (n : Macro). some (record { condition = n .condition; effect = n .effect })) one)
 
 -- the empty sequence's vectors, for a valid set
 pub empty-meaning : (set : RuleSet) → Valid set → EmptyMeaning set (asVectors (some (emptyLines set)))

@@ -20,7 +20,9 @@ ghost use Rattle.report_spec.specs.Report.{reportLength, reported, ReportMeanin
 
 // Lays the listing of a set, with its table for reach 2 built where there is room for it.
 fn put_built(text: &mut [u8], set: RuleSet, table: &mut [u8]) -> usize
-    requires { ⌜ Valid set × (length (now table) ≡ 2 * tableEntries set 2) ⌝ }
+    requires { ⌜
+        Valid set
+        × (length (now table) ≡ 2 * tableEntries set 2) ⌝ }
     ensures { λ r. ⌜ Laid 0 (listingOf set) (now (text .entry)) r (now (text .exit)) ⌝ }
 {
     build_table(set, 2, table);

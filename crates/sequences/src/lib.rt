@@ -50,10 +50,13 @@ pub fn sequence_at(count: u8, index: usize) -> ShortSequence
 
 // The vectors of a sequence, and its cost.
 fn profile_of(set: RuleSet, moves: &[u8]) -> Profile
-    requires { ⌜ Numbered 31 (now moves) × (length (now moves) ≤ 3) ⌝ }
+    requires { ⌜
+        Numbered 31 (now moves)
+        × (length (now moves) ≤ 3) ⌝ }
     ensures { λ r. ⌜
-        (r .vectors ≡ asVectors (composed set (now (moves .entry))))
-        × (r .cost ≡ sequenceCost set (now (moves .entry))) ⌝ }
+        (let sequence = now (moves .entry) in
+        (r .vectors ≡ asVectors (composed set sequence))
+        × (r .cost ≡ sequenceCost set sequence)) ⌝ }
 {
     let mut vectors = empty(set);
     let mut cost: u16 = 0;
@@ -70,8 +73,9 @@ fn profile_of(set: RuleSet, moves: &[u8]) -> Profile
 // The vectors and the cost of the sequence of an index, as `sequence_at` has it.
 pub fn profile_at(set: RuleSet, index: usize) -> Profile
     ensures { λ r. ⌜
-        (r .vectors ≡ asVectors (composed set (shortSequence (set .count) index)))
-        × (r .cost ≡ sequenceCost set (shortSequence (set .count) index)) ⌝ }
+        (let sequence = shortSequence (set .count) index in
+        (r .vectors ≡ asVectors (composed set sequence))
+        × (r .cost ≡ sequenceCost set sequence)) ⌝ }
 {
     let sequence = sequence_at(set.count, index);
     let start = sequence.start;

@@ -1,5 +1,5 @@
--- `builder::write_entries` meets its contract. The invariant: the entries so far, with those still to come, are the built
--- table.
+-- `builder::write_entries` meets its contract. The invariant: the entries so far, with those still to come, are the
+-- built table.
 -- Assumes nothing.
 use mathlib.Core.Path.{_≡_, refl, sym, _∙_}
 use Prim.Native.Nat.{_-_, _<_}

@@ -1,5 +1,5 @@
--- `composition::unified` meets its contract. The invariant: what is left to unify from place i on, in the vectors as they
--- stand, decides the whole.
+-- `composition::unified` meets its contract. The invariant: what is left to unify from place i on, in the vectors as
+-- they stand, decides the whole.
 -- Assumes nothing.
 use mathlib.Core.Path.{_≡_, refl, ap, _∙_}
 use mathlib.Core.Logic.{⊎-elim}

@@ -87,7 +87,8 @@ returns c =
 
 -- no move of the witness is unknown
 known : (c : tie.Else1)
-    → any (λ r. not (within 1 (lastOf (c .before) .last-number .result) r)) (startOf (c .before) .args .witness .now) ≡ false
+    → let last = lastOf (c .before) .last-number .result in
+    any (λ r. not (within 1 last r)) (startOf (c .before) .args .witness .now) ≡ false
 known c = sym (c .before .has-unknown-move .ensures) ∙ c .if1 .left
 
 costs-at-most-requires : tie.Need-costs-at-most-requires

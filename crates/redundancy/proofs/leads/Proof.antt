@@ -46,7 +46,8 @@ startOf c = c .before .before
 
 -- the rule is that of the next move
 rule-is : (c : tie.After-rule-at Inv-loop μ-loop)
-    → let s = startOf (headOf c) .args in c .rule-at .result ≡ ruleAt (s .set) (getD (s .moves .now) (headOf c .loop .i) 0)
+    → let s = startOf (headOf c) .args in
+    c .rule-at .result ≡ ruleAt (s .set) (getD (s .moves .now) (headOf c .loop .i) 0)
 rule-is c =
     let at = headOf c in
     let s = startOf at in

@@ -38,7 +38,8 @@ returns c =
     let named = c .before .before .before in
     let at = named .before .sequence-at in
     let set = named .before .before .args .set in
-    let lent = part-three (at .result .start) (at .result .rules) (rules-3 (at .result) _ (at .ok)) ∙ at .ensures .1 in (
+    let three = rules-3 (at .result) _ (at .ok) in
+    let lent = part-three (at .result .start) (at .result .rules) three ∙ at .ensures .1 in (
       c .profile-of .ensures .0 ∙ ap (λ q. asVectors (composed set q)) lent,
       c .profile-of .ensures .1 ∙ ap (sequenceCost set) lent,
     )

@@ -1,6 +1,6 @@
--- `sequences::profile_of` meets its contract. The invariant: the vectors so far are those of the first i moves, the cost
--- so far plus the cost of the moves left is the whole cost, and the cost so far is at most 255 for each of the first i
--- moves.
+-- `sequences::profile_of` meets its contract. The invariant: the vectors so far are those of the first i moves, the
+-- cost so far plus the cost of the moves left is the whole cost, and the cost so far is at most 255 for each of the
+-- first i moves.
 -- Assumes nothing.
 use mathlib.Core.Path.{_≡_, refl}
 use Prim.Native.Nat.{_+_, _*_, _≤_, _-_}

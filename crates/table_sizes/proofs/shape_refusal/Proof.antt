@@ -23,16 +23,16 @@ returns-2 c =
     let sized = c .before .before in
     let told = sized .before .before in
     let s = told .before .args in
-    sym (shape-misfit (s .set) (s .reach) (s .size) (told .size-for .result) (told .size-for .ensures) (sized .if1 .left)
-    (c .if2 .taken))
+    sym (shape-misfit (s .set) (s .reach) (s .size) (told .size-for .result) (told .size-for .ensures)
+    (sized .if1 .left) (c .if2 .taken))
 
 returns-3 : tie.Need-returns-3
 returns-3 c =
     let sized = c .before .before in
     let told = sized .before .before in
     let s = told .before .args in
-    sym (shape-fits (s .set) (s .reach) (s .size) (told .size-for .result) (told .size-for .ensures) (sized .if1 .left)
-    (c .if2 .left))
+    sym (shape-fits (s .set) (s .reach) (s .size) (told .size-for .result) (told .size-for .ensures)
+    (sized .if1 .left) (c .if2 .left))
 
 pub shape-refusal-spec : {M : Type 1} → statement M
 shape-refusal-spec = tie.close (tie.spec size-for-requires returns returns-2 returns-3)

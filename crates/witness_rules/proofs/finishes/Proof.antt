@@ -29,9 +29,8 @@ returns-2 : tie.Need-returns-2
 returns-2 c =
     let led = c .before in
     let s = startOf (led .before) .args in
-    rw
-    (passed (led .before .leads-to .ensures) (led .if1 .left), and-true (applicable (s .rule .condition) (s .entries .now)))
-    (c .goes-on .ensures)
+    let reached = passed (led .before .leads-to .ensures) (led .if1 .left) in
+    rw (reached, and-true (applicable (s .rule .condition) (s .entries .now))) (c .goes-on .ensures)
 
 pub finishes-spec : {M : Type 1} → statement M
 finishes-spec = tie.close (tie.spec leads-to-requires returns goes-on-requires returns-2)

@@ -1,5 +1,5 @@
--- `witness_rules::leads_to` meets its contract. The invariant: what is left of the effect and the target from place i on
--- decides the whole.
+-- `witness_rules::leads_to` meets its contract. The invariant: what is left of the effect and the target from place i
+-- on decides the whole.
 -- Assumes nothing.
 use mathlib.Core.Path.{_≡_, refl, sym, _∙_}
 use mathlib.Core.List.{map}

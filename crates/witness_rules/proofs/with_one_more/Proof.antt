@@ -1,5 +1,5 @@
--- `witness_rules::with_one_more` meets its contract. The invariant: what is found from place k of the rules on is what is
--- found of all.
+-- `witness_rules::with_one_more` meets its contract. The invariant: what is found from place k of the rules on is what
+-- is found of all.
 -- Assumes nothing.
 use mathlib.Core.Path.{_≡_, refl, sym, _∙_}
 use mathlib.Core.Option.{Option, some}

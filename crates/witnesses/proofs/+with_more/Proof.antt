@@ -48,7 +48,8 @@ room-bound m more index k few low high h l =
 last-one : (set : RuleSet) (index : ℕ) (b : Option Lines) (left more found : ℕ) → set .count ≤ 31 → more ≡ 1
     → found ≡ firstWitness set index b left (level (set .count) 1)
     → found ≡ firstBehind (set .count) index (serves set b left) (level (set .count) more)
-last-one set index b left more found few one e = e ∙ witness-searched set index b left (level (set .count) 1) few ∙ rw one
+last-one set index b left more found few one e =
+    e ∙ witness-searched set index b left (level (set .count) 1) few ∙ rw one
 
 -- what the search behind the rule at place k finds: the first of all, or, where that is 65535, nothing
 module _ (set : RuleSet) (entries target : List ℕ) (left index n k X found : ℕ)
@@ -60,7 +61,8 @@ module _ (set : RuleSet) (entries target : List ℕ) (left index n k X found : �
 
   found-none : set .count ≤ 31 → (before : ℕ) → index < sequenceCount (set .count) before → before + suc n ≤ 3
       → found ≡ kept → fromRule set entries target left index n (k + 1) ≡ X
-  found-none few before room near e = from-through set entries target left index n k h few before room near runs (sym is ∙ e) ∙ inv
+  found-none few before room near e =
+      from-through set entries target left index n k h few before room near runs (sym is ∙ e) ∙ inv
 
 -- the measure: how many rules are to come
 abbrev μ-with-more : Measures 2 with-more-kinds.ps ℕ
@@ -99,17 +101,21 @@ abbrev μ : lts.MeasureT-loop
 
 module _ (t : ℕ) where
   -- a turn of the loop, its head, and the start
-  abbrev turnOf : lts.After-goes-on (calls t) (at t) with-more.Post Inv μ → lts.In-loop (calls t) (at t) with-more.Post Inv μ
+  abbrev turnOf : lts.After-goes-on (calls t) (at t) with-more.Post Inv μ
+      → lts.In-loop (calls t) (at t) with-more.Post Inv μ
   turnOf c = c .before .before
 
-  abbrev headOf : lts.After-goes-on (calls t) (at t) with-more.Post Inv μ → lts.At-loop (calls t) (at t) with-more.Post Inv μ
+  abbrev headOf : lts.After-goes-on (calls t) (at t) with-more.Post Inv μ
+      → lts.At-loop (calls t) (at t) with-more.Post Inv μ
   headOf c = turnOf c .before
 
-  abbrev startOf : lts.After-goes-on (calls t) (at t) with-more.Post Inv μ → lts.Start (calls t) (at t) with-more.Post Inv μ
+  abbrev startOf : lts.After-goes-on (calls t) (at t) with-more.Post Inv μ
+      → lts.Start (calls t) (at t) with-more.Post Inv μ
   startOf c = headOf c .before .before
 
   -- where the rule goes on
-  abbrev onAt : lts.After-effect2 (calls t) (at t) with-more.Post Inv μ → lts.Then2 (calls t) (at t) with-more.Post Inv μ
+  abbrev onAt : lts.After-effect2 (calls t) (at t) with-more.Post Inv μ
+      → lts.Then2 (calls t) (at t) with-more.Post Inv μ
   onAt c = c .before .before
 
   with-one-more-requires : lts.Need-with-one-more-requires (calls t) (at t) with-more.Post Inv μ
