@@ -50,7 +50,8 @@ leftWith best steps blank =
 
 module _ (set : RuleSet) (query : Query) (room : ℕ) where
   -- an answer and a buffer that are what a search leaves have its meaning
-  pub answers : (r : Answer) (plan : List ℕ) (found : Searched) → r ≡ found .answer → plan ≡ found .plan → found ≡ searched set query room
+  pub answers : (r : Answer) (plan : List ℕ) (found : Searched) → r ≡ found .answer → plan ≡ found .plan
+      → found ≡ searched set query room
       → let left : Searched = record { answer = r; plan = plan } in
       (searched set query room ≡ left) × SearchMeaning set query room left × PartMeaning set query room left
   answers r plan found a b e =
@@ -76,7 +77,8 @@ module _ (set : RuleSet) (query : Query) (room : ℕ) where
       exceeded-is = ap (λ (p : Progress). p .exceeded) explored
 
       pub explored-limited : progress .exceeded ≡ true → withoutPlan room 16 (progress .steps) ≡ searched set query room
-      explored-limited e = ap (withoutPlan room 16) steps-are ∙ sym (searched-limited set query room h (sym exceeded-is ∙ e))
+      explored-limited e =
+          ap (withoutPlan room 16) steps-are ∙ sym (searched-limited set query room h (sym exceeded-is ∙ e))
 
       module _ (under : progress .exceeded ≡ false) where
         best-is : best ≡ asBest (sequenceCost set) (cheapestPlan set query)
@@ -102,7 +104,9 @@ module _ (set : RuleSet) (query : Query) (room : ℕ) where
             go (some p) e = (p, e)
 
         pub explored-unsolvable : best .found ≡ false → withoutPlan room 15 (progress .steps) ≡ searched set query room
-        explored-unsolvable n = ap (withoutPlan room 15) steps-are ∙ sym (searched-unsolvable set query room h (sym exceeded-is ∙ under) (none-found n))
+        explored-unsolvable n =
+            ap (withoutPlan room 15) steps-are
+            ∙ sym (searched-unsolvable set query room h (sym exceeded-is ∙ under) (none-found n))
 
         module _ (found : best .found ≡ true) where
           abbrev plan : Sequence
@@ -124,11 +128,13 @@ module _ (set : RuleSet) (query : Query) (room : ℕ) where
           explored-room = subst (λ b. (b .length ≤ 32) × (b .length ≤ room)) (sym best-plan) plan-room
 
           -- with the moves at the front of a blank buffer, that is what a search leaves
-          pub explored-solved : (blank : List ℕ) → blank ≡ replicate room noMove → leftWith (progress .best) (progress .steps) blank ≡ searched set query room
+          pub explored-solved : (blank : List ℕ) → blank ≡ replicate room noMove
+              → leftWith (progress .best) (progress .steps) blank ≡ searched set query room
           unfolding bestOf
           explored-solved blank e =
               ap₂ (λ b steps. leftWith b steps blank) best-plan steps-are ∙ ap (leftWith (bestOf (sequenceCost set plan) plan) (min count (query .stepLimit))) e
-              ∙ ap buffered (put-front plan room (plan-room .1)) ∙ sym (searched-solved set query room h (sym exceeded-is ∙ under) plan (some-found found .1))
+              ∙ ap buffered (put-front plan room (plan-room .1))
+              ∙ sym (searched-solved set query room h (sym exceeded-is ∙ under) plan (some-found found .1))
             where
               buffered : List ℕ → Searched
               buffered buffer =

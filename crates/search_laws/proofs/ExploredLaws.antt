@@ -33,7 +33,8 @@ use Rattle.search_spec.proofs.VisitedLaws.{start-fits-iff}
 use Rattle.search_spec.proofs.PlanVisited.{start-state}
 use Rattle.search_spec.proofs.MeaningLaws.{not-refused-iff, unrefused-iff}
 use Rattle.search_laws.specs.how.Lookup.{LooksUp}
-use Rattle.search_laws.specs.how.Visits.{lentStep, lentCost, mayGoOn, noted, noProgress, visitsFrom, asBest, wholeProgress, exploration}
+use Rattle.search_laws.specs.how.Visits.{lentStep, lentCost, mayGoOn, noted, noProgress, visitsFrom, asBest}
+use Rattle.search_laws.specs.how.Visits.{wholeProgress, exploration}
 use Rattle.search_laws.specs.declared.Exploration.{Exploration}
 use Rattle.search_laws.specs.declared.Limits.{Limits}
 use Rattle.search_laws.specs.declared.Progress.{Progress}
@@ -94,25 +95,33 @@ module _ (set : RuleSet) (query : Query) (room : ℕ) (notRefused : NotRefused s
 
     -- the search may go on to q, by costs and look-up
     abbrev may : (ℕ → ℕ) → Sequence → Bool
-    may cost q = leb (costOf cost q) (query .maxCost) && eqb (getD blocked (indexOf (set .count) (last (query .reach) q)) 0) 0
+    may cost q =
+        leb (costOf cost q) (query .maxCost) && eqb (getD blocked (indexOf (set .count) (last (query .reach) q)) 0) 0
 
     -- the visits, by steps, costs and look-up
     abbrev visits : (ℕ → State → Option State) → (ℕ → ℕ) → Progress
     visits step cost =
-        exploreWith step (set .count) (λ q _. may cost q) (λ q. noted (query .goal) (query .stepLimit) (costOf cost q) q) (query .maxMoves) [] (startState query) noProgress
+        exploreWith step (set .count) (λ q _. may cost q)
+        (λ q. noted (query .goal) (query .stepLimit) (costOf cost q) q) (query .maxMoves) [] (startState query)
+        noProgress
 
     -- what is visited by the look-up is what the table's marks allow
-    visited-list : visitedBy set query ≡ explore (stepOf set) (set .count) (λ q _. may (ruleCost set) q) (query .maxMoves) [] (startState query)
+    visited-list : visitedBy set query
+        ≡ explore (stepOf set) (set .count) (λ q _. may (ruleCost set) q) (query .maxMoves) [] (startState query)
     unfolding visitedBy
     visited-list =
-        visited-explore-next (stepOf set) (ruleCost set) (set .count) marks (startState query) (query .maxCost) (query .reach) short (query .maxMoves)
-        ∙ explore-same (stepOf set) (set .count) (λ q _. allowedNext (ruleCost set) marks (query .maxCost) (query .reach) q) (λ q _. may (ruleCost set) q) (λ q r s t k h p. agree (q ++ (r ∷ [])) k) (query .maxMoves) []
+        visited-explore-next (stepOf set) (ruleCost set) (set .count) marks (startState query) (query .maxCost)
+        (query .reach) short (query .maxMoves)
+        ∙ explore-same (stepOf set) (set .count)
+        (λ q _. allowedNext (ruleCost set) marks (query .maxCost) (query .reach) q) (λ q _. may (ruleCost set) q)
+        (λ q r s t k h p. agree (q ++ (r ∷ [])) k) (query .maxMoves) []
         (startState query) tt (and-join (le-leb 0 (query .maxCost) zero-le) refl)
       where
         short : (b : Sequence) → query .reach < length b → marks b ≡ false
         short b h = never-true (marks b) (λ e. omega (arith, marked-short set (query .reach) (query .table) b e .0))
 
-        agree : (q : Sequence) → Numbered (set .count) q → allowedNext (ruleCost set) marks (query .maxCost) (query .reach) q ≡ may (ruleCost set) q
+        agree : (q : Sequence) → Numbered (set .count) q
+            → allowedNext (ruleCost set) marks (query .maxCost) (query .reach) q ≡ may (ruleCost set) q
         agree q k =
             let ready = judged .0 .0 .0 .0 .0 in
             ap (λ b. leb (costOf (ruleCost set) q) (query .maxCost) && b)
@@ -121,13 +130,16 @@ module _ (set : RuleSet) (query : Query) (room : ℕ) (notRefused : NotRefused s
     -- the visits are the fold over it
     visits-fold : visits (stepOf set) (ruleCost set) ≡ foldOver note noProgress (visitedBy set query)
     visits-fold =
-        explore-fold (stepOf set) (set .count) (λ q _. may (ruleCost set) q) (startState query) (λ q. noted (query .goal) (query .stepLimit) (costOf (ruleCost set) q) q) note agree (query .maxMoves) []
+        explore-fold (stepOf set) (set .count) (λ q _. may (ruleCost set) q) (startState query)
+        (λ q. noted (query .goal) (query .stepLimit) (costOf (ruleCost set) q) q) note agree (query .maxMoves) []
         (startState query) noProgress refl
         ∙ ap (foldOver note noProgress) (sym visited-list)
       where
-        agree : (q : Sequence) (s : State) (p : Progress) → run (stepOf set) q (startState query) ≡ some s → noted (query .goal) (query .stepLimit) (costOf (ruleCost set) q) q s p ≡ note q p
+        agree : (q : Sequence) (s : State) (p : Progress) → run (stepOf set) q (startState query) ≡ some s
+            → noted (query .goal) (query .stepLimit) (costOf (ruleCost set) q) q s p ≡ note q p
         agree q s p e =
-            noted-as (ruleCost set) (query .stepLimit) (query .goal) q s p ∙ ap (λ o. notedAs (ruleCost set) (query .stepLimit) (endsIn (meetsGoal (query .goal)) o) q p) (sym e)
+            noted-as (ruleCost set) (query .stepLimit) (query .goal) q s p
+            ∙ ap (λ o. notedAs (ruleCost set) (query .stepLimit) (endsIn (meetsGoal (query .goal)) o) q p) (sym e)
 
     -- the whole search of a query that is not refused: the visits from the empty sequence on, over what is lent
     pub explored-whole : (conditions effects : List (List ℕ)) (costs : List ℕ) (state : State) (limits : Limits)

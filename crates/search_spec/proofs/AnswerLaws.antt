@@ -37,7 +37,9 @@ module _ (set : RuleSet) (query : Query) (room : ℕ) where
   -- every outcome is at most 16
   pub outcome-bound : searched set query room .answer .outcome ≤ 16
   unfolding searched searchedWith searchCauses queryCauses tableCauses
-  outcome-bound = refusal-at-most 16 (searchCauses set query room) (lit≤ tt, (lit≤ tt, (lit≤ tt, (lit≤ tt, (lit≤ tt, (lit≤ tt, (lit≤ tt, (lit≤ tt, (lit≤ tt, (lit≤ tt, tt))))))))))
+  outcome-bound =
+      refusal-at-most 16 (searchCauses set query room)
+      (lit≤ tt, (lit≤ tt, (lit≤ tt, (lit≤ tt, (lit≤ tt, (lit≤ tt, (lit≤ tt, (lit≤ tt, (lit≤ tt, (lit≤ tt, tt))))))))))
 
   -- what a search has that finds a plan
   record Found : Type 0 where
@@ -68,7 +70,8 @@ module _ (set : RuleSet) (query : Query) (room : ℕ) where
   found-bounded f =
       let leads = cheapest-leads set query (f .plan) (f .cheapest) .0 in
       let c = valid-cost set (f .validSet .formed) (f .plan) (leads .runsWithin .rules) in
-      (omega (arith, leads .runsWithin .moves, f .few), omega (arith, leads .runsWithin .moves, f .fits), omega (arith, c, leads .runsWithin .moves, f .few))
+      let moves = leads .runsWithin .moves in
+      (omega (arith, moves, f .few), omega (arith, moves, f .fits), omega (arith, c, moves, f .few))
 
   shown-bounded : Bounded (shownPlan set query outcome)
   unfolding shownPlan sequenceCost
@@ -100,7 +103,8 @@ module _ (set : RuleSet) (query : Query) (room : ℕ) where
 
   -- demand 1: a search that gives no plan shows no cost and no length, and blanks the whole plan buffer, for every query
   pub searched-blank : searched set query room .answer .outcome ≢ 0
-      → (searched set query room .answer .cost ≡ 0) × (searched set query room .answer .length ≡ 0) × (searched set query room .plan ≡ replicate room noMove)
+      → (searched set query room .answer .cost ≡ 0) × (searched set query room .answer .length ≡ 0)
+      × (searched set query room .plan ≡ replicate room noMove)
   unfolding searched searchedWith shownPlan sequenceCost
   searched-blank h = go (eqb outcome 0) refl
     where
@@ -112,6 +116,7 @@ module _ (set : RuleSet) (query : Query) (room : ℕ) where
       go false e = (refl, refl, blank-buffer room)
 
   -- a query that is refused has no steps
-  pub refused-steps : isAnswer (searched set query room .answer .outcome) ≡ false → searched set query room .answer .steps ≡ 0
+  pub refused-steps : isAnswer (searched set query room .answer .outcome) ≡ false
+      → searched set query room .answer .steps ≡ 0
   unfolding searched searchedWith
   refused-steps e = ap (λ b. cond b (min (length (visitedBy set query)) (query .stepLimit)) 0) e

@@ -6,7 +6,7 @@ use mathlib.Core.Bool.{Bool, true, false, not}
 use mathlib.Core.Option.{Option, some, none}
 use mathlib.Core.List.{List, [], _∷_}
 use mathlib.Core.List.{List·Memᴰ·not-nil}
-use Prim.Native.Nat.{ℕ, _-_, _≤_, _<_}
+use Prim.Native.Nat.{ℕ, suc, _-_, _≤_, _<_}
 use native.Mathlib.Omega.{arith}
 use lib.Dec.{ltb}
 use lib.ListN.{length, replicate}
@@ -27,7 +27,9 @@ use Rattle.search_spec.proofs.VisitedLaws.{visited-iff, visited-once, p
 
 pub query-numbers : (set : RuleSet) (query : Query) (room : ℕ) → NonZero (queryCauses set query room)
 unfolding queryCauses tableCauses
-query-numbers set query room = (λ e. omega arith, (λ e. omega arith, (λ e. omega arith, (λ e. omega arith, (λ e. omega arith, (λ e. omega arith, (λ e. omega arith, (λ e. omega arith, tt))))))))
+query-numbers set query room =
+    let positive : (n : ℕ) → suc n ≡ 0 → ⊥ = λ n e. omega arith in
+    (positive 6, (positive 4, (positive 5, (positive 8, (positive 9, (positive 10, (positive 11, (positive 13, tt))))))))
 
 -- a buffer with no plan in it
 pub blank-buffer : (size : ℕ) → padded size noMove [] ≡ replicate size noMove
@@ -75,22 +77,28 @@ module _ (set : RuleSet) (query : Query) where
     module _ (h : firstRefusal (queryCauses set query room) ≡ 0) where
       begins : outcome ≡ firstRefusal (ends (ltb (query .stepLimit) count) (cheapestPlan set query))
       unfolding searchCauses
-      begins = refusal-append (queryCauses set query room) (ends (ltb (query .stepLimit) count) (cheapestPlan set query)) (query-numbers set query room) h
+      begins =
+          refusal-append (queryCauses set query room) (ends (ltb (query .stepLimit) count) (cheapestPlan set query))
+          (query-numbers set query room) h
 
       pub limited-outcome : ltb (query .stepLimit) count ≡ true → outcome ≡ 16
       limited-outcome e = begins ∙ ap (λ b. firstRefusal (ends b (cheapestPlan set query))) e
 
       -- the limit is not exceeded
-      pub unlimited-outcome : ltb (query .stepLimit) count ≡ false → (o : Option Sequence) → cheapestPlan set query ≡ o → outcome ≡ firstRefusal (ends false o)
-      unlimited-outcome e o k = begins ∙ ap (λ b. firstRefusal (ends b (cheapestPlan set query))) e ∙ ap (λ p. firstRefusal (ends false p)) k
+      pub unlimited-outcome : ltb (query .stepLimit) count ≡ false → (o : Option Sequence) → cheapestPlan set query ≡ o
+          → outcome ≡ firstRefusal (ends false o)
+      unlimited-outcome e o k =
+          begins ∙ ap (λ b. firstRefusal (ends b (cheapestPlan set query))) e ∙ ap (λ p. firstRefusal (ends false p)) k
 
       ways : Limited outcome ⊎ (Unsolvable outcome ⊎ Solved outcome)
       ways = byCount (ltb (query .stepLimit) count) refl (cheapestPlan set query) refl
         where
-          byCount : (b : Bool) → ltb (query .stepLimit) count ≡ b → (o : Option Sequence) → cheapestPlan set query ≡ o → Limited outcome ⊎ (Unsolvable outcome ⊎ Solved outcome)
+          byCount : (b : Bool) → ltb (query .stepLimit) count ≡ b → (o : Option Sequence) → cheapestPlan set query ≡ o
+              → Limited outcome ⊎ (Unsolvable outcome ⊎ Solved outcome)
           byCount true e o k = inl (ltb-true (query .stepLimit) count e, limited-outcome e)
           byCount false e none k = inr (inl (ltb-false (query .stepLimit) count e, k, unlimited-outcome e none k))
-          byCount false e (some p) k = inr (inr (ltb-false (query .stepLimit) count e, (p, k), unlimited-outcome e (some p) k))
+          byCount false e (some p) k =
+              inr (inr (ltb-false (query .stepLimit) count e, (p, k), unlimited-outcome e (some p) k))
 
     -- demand 3: what holds of the answer of every query that is not refused
     pub demand-3 : NotRefused set query room → Demand3 set query room (searched set query room)
@@ -135,7 +143,9 @@ module _ (set : RuleSet) (query : Query) where
               limitExceeded = (λ k. absurd (omega arith), λ k. absurd (omega arith));
               noPlan = λ _. (λ k. absurd (omega arith), λ n. absurd (n p (leads .0)));
               planFound = λ _ _. refl;
-              cheapestShown = λ _. (p, leads .0, ap (sequenceCost set) shown, ap length shown, ap (padded room noMove) shown, leads .1);
+              cheapestShown =
+                  let put = ap (padded room noMove) shown in
+                  λ _. (p, leads .0, ap (sequenceCost set) shown, ap length shown, put, leads .1);
             }
 
         byWay : (outcome : ℕ) → Limited outcome ⊎ (Unsolvable outcome ⊎ Solved outcome) → Holds outcome

@@ -91,7 +91,8 @@ module _ (set : RuleSet) (query : Query) (room : ℕ) where
   moves-passed-iff = passed-iff untilGoal 11 _ goal-passed-iff (ltb-false 32 (query .maxMoves), le-ltb 32 (query .maxMoves))
 
   room-passed-iff : NoneHolds untilRoom ↔ RoomPassed set query room
-  room-passed-iff = passed-iff untilMoves 12 _ moves-passed-iff (ltb-false room (query .maxMoves), le-ltb room (query .maxMoves))
+  room-passed-iff =
+      passed-iff untilMoves 12 _ moves-passed-iff (ltb-false room (query .maxMoves), le-ltb room (query .maxMoves))
 
   -- a query is not refused exactly if it has no fault
   pub not-refused-iff : NotRefused set query room ↔ WellPosed set query room
@@ -106,7 +107,9 @@ module _ (set : RuleSet) (query : Query) (room : ℕ) where
   module _ (refused : firstRefusal (queryCauses set query room) ≢ 0) where
     pub refused-outcome : firstRefusal (searchCauses set query room) ≡ firstRefusal (queryCauses set query room)
     unfolding searchCauses
-    refused-outcome = refusal-before (queryCauses set query room) (ends (ltb (query .stepLimit) (length (visitedBy set query))) (cheapestPlan set query)) refused
+    refused-outcome =
+        refusal-before (queryCauses set query room)
+        (ends (ltb (query .stepLimit) (length (visitedBy set query))) (cheapestPlan set query)) refused
 
     pub refused-no-answer : isAnswer (firstRefusal (queryCauses set query room)) ≡ false
     unfolding queryCauses tableCauses
@@ -125,7 +128,10 @@ module _ (set : RuleSet) (query : Query) (room : ℕ) where
 
   -- ── Limit and plan ─────────────────────────────────────────────────────────────────────────────
 
-  within-limit-iff : NoneHolds (queryCauses set query room ++ ((16, ltb (query .stepLimit) (length (visitedBy set query))) ∷ [])) ↔ WithinLimit set query room
+  abbrev untilLimit : List Cause
+  untilLimit = queryCauses set query room ++ ((16, ltb (query .stepLimit) (length (visitedBy set query))) ∷ [])
+
+  within-limit-iff : NoneHolds untilLimit ↔ WithinLimit set query room
   within-limit-iff =
       passed-iff (queryCauses set query room) 16 _ not-refused-iff
       (ltb-false (query .stepLimit) (length (visitedBy set query)), le-ltb (query .stepLimit) (length (visitedBy set query)))
@@ -153,13 +159,18 @@ module _ (set : RuleSet) (query : Query) (room : ℕ) where
         badStart = refused-iff untilTable 9 _ ready-iff (drop 4 causes) (λ e. omega arith) refl refl (not-iff _ start-iff);
         badGoal = refused-iff untilStart 10 _ start-passed-iff (drop 5 causes) (λ e. omega arith) refl refl (not-iff _ goal-iff);
         manyMoves = refused-iff untilGoal 11 _ goal-passed-iff (drop 6 causes) (λ e. omega arith) refl refl (ltb-iff 32 (query .maxMoves));
-        smallBuffer = refused-iff untilMoves 12 _ moves-passed-iff (drop 7 causes) (λ e. omega arith) refl refl (ltb-iff room (query .maxMoves));
+        smallBuffer =
+            refused-iff untilMoves 12 _ moves-passed-iff (drop 7 causes) (λ e. omega arith) refl refl
+            (ltb-iff room (query .maxMoves));
         notAccepted = refused-iff untilRoom 14 _ room-passed-iff (drop 8 causes) (λ e. omega arith) refl refl (not-iff _ accepts-iff);
-        limited = refused-iff (queryCauses set query room) 16 _ not-refused-iff (drop 9 causes) (λ e. omega arith) refl refl (ltb-iff (query .stepLimit) (length (visitedBy set query)));
-        unsolvable = refused-iff (queryCauses set query room ++ ((16, ltb (query .stepLimit) (length (visitedBy set query))) ∷ [])) 15 _ within-limit-iff [] (λ e. omega arith) refl refl no-plan-iff;
+        limited =
+            refused-iff (queryCauses set query room) 16 _ not-refused-iff (drop 9 causes) (λ e. omega arith) refl refl
+            (ltb-iff (query .stepLimit) (length (visitedBy set query)));
+        unsolvable =
+            refused-iff untilLimit 15 _ within-limit-iff [] (λ e. omega arith) refl refl no-plan-iff;
         solved =
             Iff·trans (no-refusal-iff causes (search-numbers set query room))
-            (passed-iff (queryCauses set query room ++ ((16, ltb (query .stepLimit) (length (visitedBy set query))) ∷ [])) 15 _ within-limit-iff (unfailed-iff _ some-plan-iff));
+            (passed-iff untilLimit 15 _ within-limit-iff (unfailed-iff _ some-plan-iff));
         answered = λ f. demand-3 set query room (not-refused-iff .1 f);
         noSteps = refused-no-steps;
         noPlanShown = searched-blank set query room;

@@ -33,7 +33,12 @@ unaccepted set query = (14, not (accepted set (query .reach) (query .table)))
 -- the causes of a query alone, in turn, and then that its table is not accepted
 abbrev pub ownCauses : RuleSet → Query → ℕ → List Cause
 ownCauses set query room =
-    (9, not (startFits set (query .start))) ∷ (10, not (goalFits set (query .goal))) ∷ (11, ltb 32 (query .maxMoves)) ∷ (12, ltb room (query .maxMoves)) ∷ unaccepted set query ∷ []
+    (9, not (startFits set (query .start)))
+    ∷ (10, not (goalFits set (query .goal)))
+    ∷ (11, ltb 32 (query .maxMoves))
+    ∷ (12, ltb room (query .maxMoves))
+    ∷ unaccepted set query
+    ∷ []
 
 module _ (set : RuleSet) (query : Query) where
   abbrev shared : List Cause
@@ -66,24 +71,33 @@ module _ (set : RuleSet) (query : Query) where
 
       module _ (g : goalFits set (query .goal) ≡ true) where
         pub moves-refusal : 32 < query .maxMoves → 11 ≡ firstRefusal (queryCauses set query room)
-        moves-refusal h = let t : firstRefusal (ownCauses set query room) ≡ 11 = rw (s, g, lt-ltb 32 (query .maxMoves) h) in sym t ∙ own-refusal
+        moves-refusal h =
+            let t : firstRefusal (ownCauses set query room) ≡ 11 = rw (s, g, lt-ltb 32 (query .maxMoves) h) in
+            sym t ∙ own-refusal
 
         module _ (m : query .maxMoves ≤ 32) where
           pub room-refusal : room < query .maxMoves → 12 ≡ firstRefusal (queryCauses set query room)
           room-refusal h =
-              let t : firstRefusal (ownCauses set query room) ≡ 12 = rw (s, g, le-ltb 32 (query .maxMoves) m, lt-ltb room (query .maxMoves) h) in
+              let few = le-ltb 32 (query .maxMoves) m in
+              let short = lt-ltb room (query .maxMoves) h in
+              let t : firstRefusal (ownCauses set query room) ≡ 12 = rw (s, g, few, short) in
               sym t ∙ own-refusal
 
           pub last-refusal : query .maxMoves ≤ room → checked ≡ firstRefusal (queryCauses set query room)
           unfolding checkOutcome checkCauses tableCauses
           last-refusal h =
-              let t : firstRefusal (ownCauses set query room) ≡ firstRefusal (unaccepted set query ∷ []) = rw (s, g, le-ltb 32 (query .maxMoves) m, le-ltb room (query .maxMoves) h) in
-              past-shared r (unaccepted set query ∷ []) ∙ sym t ∙ own-refusal
+              let last = unaccepted set query ∷ [] in
+              let few = le-ltb 32 (query .maxMoves) m in
+              let fits = le-ltb room (query .maxMoves) h in
+              let t : firstRefusal (ownCauses set query room) ≡ firstRefusal last = rw (s, g, few, fits) in
+              past-shared r last ∙ sym t ∙ own-refusal
 
   -- any other refusal of the check is the query's
   pub shared-refusal : (room : ℕ) → checked ≢ 0 → checked ≢ 14 → checked ≡ firstRefusal (queryCauses set query room)
   unfolding checkOutcome checkCauses queryCauses tableCauses buildOutcome
-  shared-refusal room h₀ h₁₄ = refusal-before shared (unaccepted set query ∷ []) refused ∙ sym (refusal-before shared (ownCauses set query room) refused)
+  shared-refusal room h₀ h₁₄ =
+      refusal-before shared (unaccepted set query ∷ []) refused
+      ∙ sym (refusal-before shared (ownCauses set query room) refused)
     where
       one-of : (b : Bool) → firstRefusal ((14, not b) ∷ []) ≢ 0 → firstRefusal ((14, not b) ∷ []) ≢ 14 → ⊥
       one-of true h _ = h refl
@@ -119,7 +133,9 @@ module _ (set : RuleSet) (query : Query) (room : ℕ) where
   abbrev count : ℕ
   count = length (visitedBy set query)
 
-  shown-none : (outcome : ℕ) → outcome ≢ 0 → searchedWith set query room outcome ≡ withoutPlan room outcome (cond (isAnswer outcome) (min count (query .stepLimit)) 0)
+  shown-none : (outcome : ℕ) → outcome ≢ 0
+      → searchedWith set query room outcome
+      ≡ withoutPlan room outcome (cond (isAnswer outcome) (min count (query .stepLimit)) 0)
   unfolding searchedWith shownPlan sequenceCost
   shown-none outcome h = rw (ne-eqb outcome 0 h, blank-buffer room)
 
@@ -127,18 +143,26 @@ module _ (set : RuleSet) (query : Query) (room : ℕ) where
   unfolding searched
   searched-refused h =
       ap (searchedWith set query room) (refused-outcome set query room h) ∙ shown-none refusal h
-      ∙ ap (λ b. withoutPlan room refusal (cond b (min count (query .stepLimit)) 0)) (refused-no-answer set query room h)
+      ∙ ap (λ b. withoutPlan room refusal (cond b (min count (query .stepLimit)) 0))
+      (refused-no-answer set query room h)
 
   module _ (h : refusal ≡ 0) where
-    pub searched-limited : ltb (query .stepLimit) count ≡ true → searched set query room ≡ withoutPlan room 16 (min count (query .stepLimit))
+    pub searched-limited : ltb (query .stepLimit) count ≡ true
+        → searched set query room ≡ withoutPlan room 16 (min count (query .stepLimit))
     unfolding searched
-    searched-limited e = ap (searchedWith set query room) (limited-outcome set query room h e) ∙ shown-none 16 (λ k. omega arith)
+    searched-limited e =
+        ap (searchedWith set query room) (limited-outcome set query room h e) ∙ shown-none 16 (λ k. omega arith)
 
-    pub searched-unsolvable : ltb (query .stepLimit) count ≡ false → cheapestPlan set query ≡ none → searched set query room ≡ withoutPlan room 15 (min count (query .stepLimit))
+    pub searched-unsolvable : ltb (query .stepLimit) count ≡ false → cheapestPlan set query ≡ none
+        → searched set query room ≡ withoutPlan room 15 (min count (query .stepLimit))
     unfolding searched
-    searched-unsolvable e k = ap (searchedWith set query room) (unlimited-outcome set query room h e none k) ∙ shown-none 15 (λ k. omega arith)
+    searched-unsolvable e k =
+        ap (searchedWith set query room) (unlimited-outcome set query room h e none k)
+        ∙ shown-none 15 (λ k. omega arith)
 
-    pub searched-solved : ltb (query .stepLimit) count ≡ false → (p : Sequence) → cheapestPlan set query ≡ some p → searched set query room ≡ withPlan set room p (min count (query .stepLimit))
+    pub searched-solved : ltb (query .stepLimit) count ≡ false → (p : Sequence) → cheapestPlan set query ≡ some p
+        → searched set query room ≡ withPlan set room p (min count (query .stepLimit))
     unfolding searched searchedWith
     searched-solved e p k =
-        ap (searchedWith set query room) (unlimited-outcome set query room h e (some p) k) ∙ ap (λ q. withPlan set room q (min count (query .stepLimit))) (shown-plan set query p k)
+        ap (searchedWith set query room) (unlimited-outcome set query room h e (some p) k)
+        ∙ ap (λ q. withPlan set room q (min count (query .stepLimit))) (shown-plan set query p k)

@@ -61,7 +61,8 @@ module _ (set : RuleSet) (query : Query) (room : ℕ) where
           restBlank = byOutcome (equal? (found .answer .outcome) 0);
         }
       where
-        byOutcome : (found .answer .outcome ≡ 0) ⊎ (found .answer .outcome ≢ 0) → found .plan ≡ padded room noMove (partOf found)
+        byOutcome : (found .answer .outcome ≡ 0) ⊎ (found .answer .outcome ≢ 0)
+            → found .plan ≡ padded room noMove (partOf found)
         byOutcome (inl e) = let shown = means .answered (means .solved .0 e .0 .0) .cheapestShown e in rest (shown .0) (shown .3, shown .4)
         byOutcome (inr n) = rest [] (none n)
 

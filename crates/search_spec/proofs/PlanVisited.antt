@@ -56,12 +56,18 @@ module _ (set : RuleSet) (query : Query) where
               omega (arith, z, width-beyond (set .positions) (set .sizes) i k)
 
   -- what a query has that is not refused: a valid set, a start that fits, an accepted table
-  faultless : (room : ℕ) → NotRefused set query room → (valid set ≡ true) × (startFits set (query .start) ≡ true) × (accepted set (query .reach) (query .table) ≡ true)
+  faultless : (room : ℕ) → NotRefused set query room
+      → (valid set ≡ true) × (startFits set (query .start) ≡ true) × (accepted set (query .reach) (query .table) ≡ true)
   unfolding queryCauses tableCauses
-  faultless room h = (not-false (valid set) (h .0), not-false (startFits set (query .start)) (h .1 .1 .1 .0), not-false (accepted set (query .reach) (query .table)) (h .1 .1 .1 .1 .1 .1 .1 .0))
+  faultless room h = (
+    not-false (valid set) (h .0),
+    not-false (startFits set (query .start)) (h .1 .1 .1 .0),
+    not-false (accepted set (query .reach) (query .table)) (h .1 .1 .1 .1 .1 .1 .1 .0),
+  )
 
   -- the cheapest plan is visited
-  pub plan-visited : (room : ℕ) → NotRefused set query room → (p : Sequence) → cheapestPlan set query ≡ some p → p ∈ visitedBy set query
+  pub plan-visited : (room : ℕ) → NotRefused set query room → (p : Sequence) → cheapestPlan set query ≡ some p
+      → p ∈ visitedBy set query
   unfolding cheapestPlan plansFor
   plan-visited room h p e =
       let w = faultless room h in

@@ -34,7 +34,9 @@ returns c cost limit =
     let call = c .before .before in
     let s = callOf call in
     let e = call .check-table .ensures .0 in
-    e ∙ shared-refusal (s .args .set) (queryOf s cost limit) (s .args .plan-size) (λ k. c .before .if1 .taken (e ∙ k)) (λ k. c .if2 .taken (e ∙ k))
+    e
+    ∙ shared-refusal (s .args .set) (queryOf s cost limit) (s .args .plan-size) (λ k. c .before .if1 .taken (e ∙ k))
+    (λ k. c .if2 .taken (e ∙ k))
 
 -- past the first return, what is shared is judged
 abbrev startOf : tie.Joined1 → tie.Start
@@ -44,7 +46,8 @@ ready : (c : tie.Joined1) → Ready (startOf c .args .set) (startOf c .args .rea
 ready c =
     let s = startOf c in
     let e = sym (c .before .check-table .ensures .0) in
-    checked-ready (s .args .set) (queryOf s 0 0) (⊎-elim (λ w. inl (e ∙ w .1 .left)) (λ w. inr (e ∙ w .left)) (c .if1 .came))
+    checked-ready (s .args .set) (queryOf s 0 0)
+    (⊎-elim (λ w. inl (e ∙ w .1 .left)) (λ w. inr (e ∙ w .left)) (c .if1 .came))
 
 start-fits-requires : tie.Need-start-fits-requires
 start-fits-requires c κs = ready c .0 .formed .positionLimits .1
@@ -67,7 +70,8 @@ returns-3 c cost limit =
     let started = c .before .before in
     let s = startOf (started .before .before) in
     let misfit = failed (c .before .goal-fits .ensures) (c .if4 .taken) in
-    goal-refusal (s .args .set) (queryOf s cost limit) (s .args .plan-size) (ready (started .before .before)) (start-fits started) misfit
+    goal-refusal (s .args .set) (queryOf s cost limit) (s .args .plan-size) (ready (started .before .before))
+    (start-fits started) misfit
 
 -- past the third, so does the goal
 goal-fits : (c : tie.Else4)
@@ -80,14 +84,16 @@ returns-4 : tie.Need-returns-4
 returns-4 c cost limit =
     let started = c .before .before .before in
     let s = startOf (started .before .before) in
-    moves-refusal (s .args .set) (queryOf s cost limit) (s .args .plan-size) (ready (started .before .before)) (start-fits started) (goal-fits (c .before)) (c .if5 .taken)
+    moves-refusal (s .args .set) (queryOf s cost limit) (s .args .plan-size) (ready (started .before .before))
+    (start-fits started) (goal-fits (c .before)) (c .if5 .taken)
 
 returns-5 : tie.Need-returns-5
 returns-5 c cost limit =
     let aimed = c .before .before in
     let started = aimed .before .before in
     let s = startOf (started .before .before) in
-    room-refusal (s .args .set) (queryOf s cost limit) (s .args .plan-size) (ready (started .before .before)) (start-fits started) (goal-fits aimed) (c .before .if5 .left) (c .if6 .taken)
+    room-refusal (s .args .set) (queryOf s cost limit) (s .args .plan-size) (ready (started .before .before))
+    (start-fits started) (goal-fits aimed) (c .before .if5 .left) (c .if6 .taken)
 
 returns-6 : tie.Need-returns-6
 returns-6 c cost limit =
@@ -96,7 +102,8 @@ returns-6 c cost limit =
     let judged = started .before .before in
     let s = startOf judged in
     judged .before .check-table .ensures .0
-    ∙ last-refusal (s .args .set) (queryOf s cost limit) (s .args .plan-size) (ready judged) (start-fits started) (goal-fits aimed) (c .before .if5 .left) (c .if6 .left)
+    ∙ last-refusal (s .args .set) (queryOf s cost limit) (s .args .plan-size) (ready judged) (start-fits started)
+    (goal-fits aimed) (c .before .if5 .left) (c .if6 .left)
 
 pub query-refusal-spec : {M : Type 1} → statement M
 query-refusal-spec =

@@ -58,7 +58,8 @@ mayGoOn costs blocked limits q =
 -- a plan of n moves at a cost replaces the best so far: there is none yet, or it is cheaper, or costs the same and is
 -- shorter
 unfoldable pub replaces : Best → ℕ → ℕ → Bool
-replaces best cost n = not (best .found) || (ltb cost (best .cost) || (eqb cost (best .cost) && ltb n (best .length)))
+replaces former cost n =
+    not (former .found) || (ltb cost (former .cost) || (eqb cost (former .cost) && ltb n (former .length)))
 
 -- a sequence, at its cost, as the best plan; and no plan
 unfoldable pub bestOf : ℕ → Sequence → Best
@@ -69,9 +70,9 @@ noBest = record { found = false; cost = 0; length = 0; moves = replicate 32 noMo
 
 -- the best plan after one whose n moves stand in an array, which costs so much and has led to the state s
 unfoldable pub bestAt : List ℕ → ℕ → ℕ → List ℕ → State → Best → Best
-bestAt goal cost n moves s best =
-    cond (meetsGoal goal s && replaces best cost n) (record { found = true; cost = cost; length = n; moves = moves })
-    best
+bestAt goal cost n moves s former =
+    cond (meetsGoal goal s && replaces former cost n) (record { found = true; cost = cost; length = n; moves = moves })
+    former
 
 -- what visiting a sequence, whose n moves stand in an array, makes of the progress: one step more, if the limit allows
 -- it; else the limit is exceeded, and the floor is no higher than the sequence's cost

@@ -1,5 +1,5 @@
--- `search_states::runs_within` meets its contract. The invariant: what is left of the condition and the state from place
--- i on, to the positions, decides the whole.
+-- `search_states::runs_within` meets its contract. The invariant: what is left of the condition and the state from
+-- place i on, to the positions, decides the whole.
 -- Assumes nothing.
 use mathlib.Core.Path.{_≡_, refl, sym, ap, _∙_}
 use mathlib.Core.List.{map}

@@ -1,4 +1,6 @@
--- `tallied_search::search_with_tally` meets its contract: a walk of its MIR, by hand. The plan buffer goes to `search` and the tally to `update`, each at its own lifetime, share and ghost name: both are given up for good, and nothing has to come back.
+-- `tallied_search::search_with_tally` meets its contract: a walk of its MIR, by hand. The plan buffer goes to `search`
+-- and the tally to `update`, each at its own lifetime, share and ghost name: both are given up for good, and nothing
+-- has to come back.
 -- All that it knows of `search` and of `update` is that each meets its contract.
 -- Assumes nothing.
 use mathlib.Core.Path.{_≡_, refl, sym, ap, subst, _∙_}
@@ -77,7 +79,8 @@ Answered set query room found =
 
 -- what `update` says of the tally that it leaves
 abbrev Updated : Tally → Answer → Tally → Type 0
-Updated before r after = (after ≡ talliedOf before (r .outcome) (r .steps)) × TallyMeaning (r .outcome) (r .steps) before after
+Updated before r after =
+    (after ≡ talliedOf before (r .outcome) (r .steps)) × TallyMeaning (r .outcome) (r .steps) before after
 
 -- the two together
 both : (set : RuleSet) (query : Query) (room : ℕ) (before after : Tally) (r : Answer) (plan : List ℕ)
@@ -90,7 +93,8 @@ both : (set : RuleSet) (query : Query) (room : ℕ) (before after : Tally) (r : 
     × TallyMeaning (r .outcome) (r .steps) before after)
 unfolding queried
 both set query room before after r plan e d =
-    let counted = ap (λ (found : Searched). talliedOf before (found .answer .outcome) (found .answer .steps)) (e .0) ∙ sym (d .0) in
+    let tallied : Searched → Tally = λ found. talliedOf before (found .answer .outcome) (found .answer .steps) in
+    let counted = ap tallied (e .0) ∙ sym (d .0) in
     ((λ i. record { found = e .0 i; tally = counted i }), e .1, e .2, d .1)
 
 module _ {M : Type 1} (𝓤 : URA M) (H : Heap 𝓤) (A : Atoms 𝓤) (at-mem : Memory → SProp 𝓤) (run : Routine → Fun 𝓤) where
@@ -156,6 +160,10 @@ module _ {M : Type 1} (𝓤 : URA M) (H : Heap 𝓤) (A : Atoms 𝓤) (W : Given
   abbrev room : ℕ
   room = length (plan .now)
 
+  -- what `search` says of an answer and a plan buffer
+  abbrev Left : Answer → List ℕ → Type 0
+  Left r zs = Answered set query room (record { answer = r; plan = zs })
+
   abbrev Post : Val → SProp 𝓤
   Post = walkOf 𝓤 H A f.ended stayed (f.clauses 𝓤 H A at-mem run) .post ((lfts, shares, tt, x, at), tt)
 
@@ -179,18 +187,27 @@ module _ {M : Type 1} (𝓤 : URA M) (H : Heap 𝓤) (A : Atoms 𝓤) (W : Given
   to-search = ((search-lfts, search-shares, tt, search-args, search-vals), tt)
 
   asked-of : ent 𝓤 (onEntry 𝓤 H A g.signature search-lfts search-shares search-args search-vals) (Search 𝓤 H A at-mem run .pre to-search)
-  asked-of = qed W (tokens ∷ ‵ (owns (R.the-row ∷ usize ∷ ShrSlice (named 0) κ₀ u8 ∷ ShrSlice (named 1) κ₁ u8 ∷ ShrSlice (named 2) κ₂ u8 ∷ usize ∷ u16 ∷ u32 ∷ MutSlice (named 3) κ₃ u8 ∷ []) search-args search-vals) ∷ []) ∵ join ! $ frame ! $ done !
+  asked-of =
+      qed W (tokens ∷ ‵ (owns (R.the-row ∷ usize ∷ ShrSlice (named 0) κ₀ u8 ∷ ShrSlice (named 1) κ₁ u8 ∷ ShrSlice (named 2) κ₂ u8 ∷ usize ∷ u16 ∷ u32 ∷ MutSlice (named 3) κ₃ u8 ∷ []) search-args search-vals) ∷ []) ∵ join ! $
+      frame ! $ done !
 
   -- what there is on entry gives what `search` asks, and leaves the tally with its lifetime's token
   apart : ent 𝓤 (onEntry 𝓤 H A f.signature lfts shares x at) (sep 𝓤 (Search 𝓤 H A at-mem run .pre to-search) (sep 𝓤 (A .lft κ₄ q₄) (sem 𝓤 H A tally-own)))
   apart =
       qed W ((‵ (flft κ₀ q₀) ⊛ ‵ (flft κ₁ q₁) ⊛ ‵ (flft κ₂ q₂) ⊛ ‵ (flft κ₃ q₃) ⊛ ‵ (flft κ₄ q₄) ⊛ ‵ ftrue) ∷ ‵ (owns (R.the-row ∷ usize ∷ ShrSlice (named 0) κ₀ u8 ∷ ShrSlice (named 1) κ₁ u8 ∷ ShrSlice (named 2) κ₂ u8 ∷ usize ∷ u16 ∷ u32 ∷ MutSlice (named 3) κ₃ u8 ∷ MutRef (named 4) κ₄ T.the-row ∷ []) x at) ∷ []) ∵
-      split ! $ move ! (1 ∷ []) $ split ! $ move ! (1 ∷ []) $ split ! $ move ! (1 ∷ []) $ split ! $ move ! (1 ∷ []) $ split ! $
+      split ! $ move ! (1 ∷ []) $ split ! $ move ! (1 ∷ []) $ split ! $ move ! (1 ∷ []) $ split ! $ move ! (1 ∷ []) $
+      split ! $
       -- [the token of the tally's lifetime; true; the other tokens, last first; what the parameters own]
-      move ! (6 ∷ []) $ fsplit ! $ move ! (1 ∷ []) $ fsplit ! $ move ! (1 ∷ []) $ fsplit ! $ move ! (1 ∷ []) $ fsplit ! $ move ! (1 ∷ []) $ fsplit ! $ move ! (1 ∷ []) $ fsplit ! $ move ! (1 ∷ []) $ fsplit ! $ move ! (1 ∷ []) $ fsplit ! $ move ! (1 ∷ []) $ fsplit ! $ move ! (1 ∷ []) $ fsplit ! $
-      -- [what the tally owns; true; what the others own, last first; the token of the tally's lifetime; true; the other tokens, last first]
-      move ! (2 ∷ 1 ∷ []) $ fjoin ! $ move ! (2 ∷ 0 ∷ []) $ fjoin ! $ move ! (2 ∷ 0 ∷ []) $ fjoin ! $ move ! (2 ∷ 0 ∷ []) $ fjoin ! $ move ! (2 ∷ 0 ∷ []) $ fjoin ! $ move ! (2 ∷ 0 ∷ []) $ fjoin ! $ move ! (2 ∷ 0 ∷ []) $ fjoin ! $ move ! (2 ∷ 0 ∷ []) $ fjoin ! $ move ! (2 ∷ 0 ∷ []) $ fjoin ! $
-      move ! (4 ∷ 3 ∷ []) $ join ! $ move ! (4 ∷ 0 ∷ []) $ join ! $ move ! (4 ∷ 0 ∷ []) $ join ! $ move ! (4 ∷ 0 ∷ []) $ join ! $
+      move ! (6 ∷ []) $ fsplit ! $ move ! (1 ∷ []) $ fsplit ! $ move ! (1 ∷ []) $ fsplit ! $ move ! (1 ∷ []) $
+      fsplit ! $ move ! (1 ∷ []) $ fsplit ! $ move ! (1 ∷ []) $ fsplit ! $ move ! (1 ∷ []) $ fsplit ! $
+      move ! (1 ∷ []) $ fsplit ! $ move ! (1 ∷ []) $ fsplit ! $ move ! (1 ∷ []) $ fsplit ! $
+      -- [what the tally owns; true; what the others own, last first; the token of the tally's lifetime; true; the other
+      -- tokens, last first]
+      move ! (2 ∷ 1 ∷ []) $ fjoin ! $ move ! (2 ∷ 0 ∷ []) $ fjoin ! $ move ! (2 ∷ 0 ∷ []) $ fjoin ! $
+      move ! (2 ∷ 0 ∷ []) $ fjoin ! $ move ! (2 ∷ 0 ∷ []) $ fjoin ! $ move ! (2 ∷ 0 ∷ []) $ fjoin ! $
+      move ! (2 ∷ 0 ∷ []) $ fjoin ! $ move ! (2 ∷ 0 ∷ []) $ fjoin ! $ move ! (2 ∷ 0 ∷ []) $ fjoin ! $
+      move ! (4 ∷ 3 ∷ []) $ join ! $ move ! (4 ∷ 0 ∷ []) $ join ! $ move ! (4 ∷ 0 ∷ []) $ join ! $ move ! (4 ∷ 0 ∷ []) $
+      join ! $
       use2 W (raw (Search 𝓤 H A at-mem run .pre to-search)) asked-of $ frame ! $ move ! (1 ∷ []) $ frame ! $ done !
 
   -- ---- the call of `update`
@@ -204,20 +221,28 @@ module _ {M : Type 1} (𝓤 : URA M) (H : Heap 𝓤) (A : Atoms 𝓤) (W : Given
       → ent 𝓤 (sep 𝓤 (A .lft κ₄ q₄) (sem 𝓤 H A tally-own)) (Update 𝓤 H A at-mem run .pre (to-update r))
   goes-update r f-outcome f-steps =
       qed W (‵ (flft κ₄ q₄) ∷ ‵ tally-own ∷ []) ∵
-      nothing ! $ owned ! u32 (Is u32) (uint-makes 𝓤 H A W w32) (r .steps) _ (refl, f-steps) $ fjoin ! $ owned ! u8 (Is u8) (uint-makes 𝓤 H A W w8) (r .outcome) _ (refl, f-outcome) $ fjoin ! $
+      nothing ! $ owned ! u32 (Is u32) (uint-makes 𝓤 H A W w32) (r .steps) _ (refl, f-steps) $ fjoin ! $
+      owned ! u8 (Is u8) (uint-makes 𝓤 H A W w8) (r .outcome) _ (refl, f-outcome) $ fjoin ! $
       move ! (2 ∷ 0 ∷ []) $ fjoin ! $ nothing ! $ move ! (2 ∷ 0 ∷ []) $ join ! $ join ! $ frame ! $ done !
 
   -- ---- the exit
-  exits : (r : Answer) (zs : List ℕ) (after : Tally) → Is N.the-row r (answer-val r ∷ []) → length zs ≡ length (plan .now) → Answered set query room (record { answer = r; plan = zs }) → Updated (tally .now) r after
+  exits : (r : Answer) (zs : List ℕ) (after : Tally) → Is N.the-row r (answer-val r ∷ []) → length zs ≡ room
+      → Left r zs → Updated (tally .now) r after
       → ent 𝓤 (⋆ 𝓤 H A (tokens ∷ ‵ (flft κ₄ q₄) ∷ ‵ (finally u8 (plan .name) zs) ∷ ‵ (fres (tally .name) (T.the-row .coded .code after)) ∷ [])) (Post (answer-val r))
   exits r zs after is l e d =
       qed W (tokens ∷ ‵ (flft κ₄ q₄) ∷ ‵ (finally u8 (plan .name) zs) ∷ ‵ (fres (tally .name) (T.the-row .coded .code after)) ∷ []) ∵
       suffices ! _ (ends-at 𝓤 H A f.ended stayed (f.clauses 𝓤 H A at-mem run) W ((lfts, shares, tt, x, at), tt) (answer-val r) r
-      (tt, (tt, (tt, (tt, (tt, (tt, (tt, (tt, (zs, (after, tt)))))))))) (tt, (tt, (tt, (tt, (tt, (tt, (tt, (tt, (l, (tt, tt))))))))))) $ says ! (both set query room (tally .now) after r zs e d) $
+      (tt, (tt, (tt, (tt, (tt, (tt, (tt, (tt, (zs, (after, tt))))))))))
+      (tt, (tt, (tt, (tt, (tt, (tt, (tt, (tt, (l, (tt, tt))))))))))) $
+      says ! (both set query room (tally .now) after r zs e d) $
       split ! $ move ! (1 ∷ []) $ split ! $ move ! (1 ∷ []) $ split ! $ move ! (1 ∷ []) $ split ! $
-      -- [the last of the four tokens; true; the others, last first; the token of the tally's lifetime; the plan's last list; the tally's last value]
-      move ! (5 ∷ 1 ∷ []) $ join ! $ move ! (1 ∷ 0 ∷ []) $ join ! $ move ! (1 ∷ 0 ∷ []) $ join ! $ move ! (1 ∷ 0 ∷ []) $ join ! $ move ! (1 ∷ 0 ∷ []) $ join ! $ frame ! $
-      nothing ! $ move ! (2 ∷ 0 ∷ []) $ fjoin ! $ move ! (1 ∷ 0 ∷ []) $ fjoin ! $ nothing ! $ fjoin ! $ nothing ! $ fjoin ! $ nothing ! $ fjoin ! $ nothing ! $ fjoin ! $ nothing ! $ fjoin ! $ nothing ! $ fjoin ! $ nothing ! $ fjoin ! $ nothing ! $ fjoin ! $
+      -- [the last of the four tokens; true; the others, last first; the token of the tally's lifetime; the plan's last
+      -- list; the tally's last value]
+      move ! (5 ∷ 1 ∷ []) $ join ! $ move ! (1 ∷ 0 ∷ []) $ join ! $ move ! (1 ∷ 0 ∷ []) $ join ! $ move ! (1 ∷ 0 ∷ []) $
+      join ! $ move ! (1 ∷ 0 ∷ []) $ join ! $ frame ! $
+      nothing ! $ move ! (2 ∷ 0 ∷ []) $ fjoin ! $ move ! (1 ∷ 0 ∷ []) $ fjoin ! $ nothing ! $ fjoin ! $ nothing ! $
+      fjoin ! $ nothing ! $ fjoin ! $ nothing ! $ fjoin ! $ nothing ! $ fjoin ! $ nothing ! $ fjoin ! $ nothing ! $
+      fjoin ! $ nothing ! $ fjoin ! $
       frame ! $ owned ! N.the-row (Is N.the-row) (LL.makes N.the-type N′.the-plain 𝓤 H A) r _ is $ done !
 
   module _ (C : Calls 𝓤 H) (Λ : Loops 𝓤 H) (fm : FmC 𝓤 H (W .laws) C) (known-search : Triple 𝓤 (C #search·search) (Search 𝓤 H A at-mem run)) (known-update : Triple 𝓤 (C #tally·update) (Update 𝓤 H A at-mem run)) where
@@ -227,39 +252,101 @@ module _ {M : Type 1} (𝓤 : URA M) (H : Heap 𝓤) (A : Atoms 𝓤) (W : Given
     walk is-set f-reach room-table room-start room-goal f-moves f-cost f-limit room-plan =
         qed W (raw (onEntry 𝓤 H A f.signature lfts shares x at) ∷ []) ∵
         enter ! C Λ code.function passed _ $
-        alloc1 ! (λ l₀. alloc1 ! (λ l₁. alloc1 ! (λ l₂. alloc1 ! (λ l₃. alloc1 ! (λ l₄. alloc1 ! (λ l₅. alloc1 ! (λ l₆. alloc1 ! (λ l₇. alloc1 ! (λ l₈. alloc1 ! (λ l₉. alloc1 ! (λ l₁₀. alloc1 ! (λ l₁₁. alloc1 ! (λ l₁₂. alloc1 ! (λ l₁₃. alloc1 ! (λ l₁₄. alloc1 ! (λ l₁₅. alloc0 ! $ params1 ! $
-        pass1 ! (init ! 28 refl (LL.lawful R.the-type R′.the-laws 𝓤 H A W .typed set _ is-set .0)) $ pass1 ! (init ! 26 refl (tt, record { fits = f-reach })) $
-        pass1 ! (init ! 24 refl (tt, (tt, (record { fits = room-table .0 }, tt)))) $ pass1 ! (init ! 22 refl (tt, (tt, (record { fits = room-start .0 }, tt)))) $ pass1 ! (init ! 20 refl (tt, (tt, (record { fits = room-goal .0 }, tt)))) $
-        pass1 ! (init ! 18 refl (tt, record { fits = f-moves })) $ pass1 ! (init ! 16 refl (tt, record { fits = f-cost })) $ pass1 ! (init ! 14 refl (tt, record { fits = f-limit })) $
-        pass1 ! (init ! 12 refl (tt, (tt, (record { fits = room-plan .0 }, tt)))) $ pass1 ! (init ! 10 refl (tt, tt)) $ pass0 ! $
-        -- [room for _15; …; _14; …; _13; …; _12; …; _11; …; _10; …; _9; …; …; _1; …; room for _0; …; what there is on entry]
+        alloc1 ! (λ l₀. alloc1 ! (λ l₁. alloc1 ! (λ l₂. alloc1 ! (λ l₃. alloc1 ! (λ l₄. alloc1 ! (λ l₅. alloc1 ! (λ l₆. alloc1 ! (λ l₇. alloc1 ! (λ l₈. alloc1 ! (λ l₉. alloc1 ! (λ l₁₀. alloc1 ! (λ l₁₁. alloc1 ! (λ l₁₂. alloc1 ! (λ l₁₃. alloc1 ! (λ l₁₄. alloc1 ! (λ l₁₅. alloc0 ! $
+        params1 ! $
+        pass1 ! (init ! 28 refl (LL.lawful R.the-type R′.the-laws 𝓤 H A W .typed set _ is-set .0)) $
+        pass1 ! (init ! 26 refl (
+          tt,
+          record {
+            fits =
+                f-reach;
+          },
+        )) $
+        pass1 ! (init ! 24 refl (
+          tt,
+          (
+            tt,
+            (
+              record {
+                fits =
+                    room-table .0;
+              },
+              tt,
+            ),
+          ),
+        )) $ pass1 ! (init ! 22 refl (tt, (tt, (record { fits = room-start .0 }, tt)))) $
+        pass1 ! (init ! 20 refl (tt, (tt, (record { fits = room-goal .0 }, tt)))) $
+        pass1 ! (init ! 18 refl (
+          tt,
+          record {
+            fits =
+                f-moves;
+          },
+        )) $ pass1 ! (init ! 16 refl (tt, record { fits = f-cost })) $
+        pass1 ! (init ! 14 refl (tt, record { fits = f-limit })) $
+        pass1 ! (init ! 12 refl (
+          tt,
+          (
+            tt,
+            (
+              record {
+                fits =
+                    room-plan .0;
+              },
+              tt,
+            ),
+          ),
+        )) $ pass1 ! (init ! 10 refl (tt, tt)) $ pass0 ! $
+        -- [room for _15; …; _14; …; _13; …; _12; …; _11; …; _10; …; _9; …; …; _1; …; room for _0; …; what there is on
+        -- entry]
         assigns ! (addr ! (from ! (fld ! refl (hop ! (look-in ! 12 (sub ! 0 refl (whole !))) (stop !))))) (from ! (stop !)) (init ! 6 refl (tt, tt)) $
         assigns ! (agg ! (and-then ! (load ! (from ! (stop !)) (look ! 6 refl)) (and-then ! (load ! (from ! (fld ! refl (stop !))) (look-in ! 12 (sub ! 1 refl (whole !)))) (no-more !)))) (from ! (stop !)) (init ! 4 refl (tt, (tt, (record { fits = room-plan .0 }, tt)))) $
         -- `search`
-        move ! (32 ∷ []) $ use1 W (raw (Search 𝓤 H A at-mem run .pre to-search) ⊛ (‵ (flft κ₄ q₄) ⊛ ‵ tally-own)) apart $ split ! $
+        move ! (32 ∷ []) $
+        use1 W (raw (Search 𝓤 H A at-mem run .pre to-search) ⊛ (‵ (flft κ₄ q₄) ⊛ ‵ tally-own)) apart $ split ! $
         calls-at ! fm (Search 𝓤 H A at-mem run) known-search to-search (and-then ! (load ! (from ! (stop !)) (look ! 30 refl)) (and-then ! (load ! (from ! (stop !)) (look ! 28 refl)) (and-then ! (load ! (from ! (stop !)) (look ! 26 refl)) (and-then ! (load ! (from ! (stop !)) (look ! 24 refl)) (and-then ! (load ! (from ! (stop !)) (look ! 22 refl)) (and-then ! (load ! (from ! (stop !)) (look ! 20 refl)) (and-then ! (load ! (from ! (stop !)) (look ! 18 refl)) (and-then ! (load ! (from ! (stop !)) (look ! 16 refl)) (and-then ! (load ! (from ! (stop !)) (look ! 6 refl)) (no-more !)))))))))) (λ v.
-        use1 W (later (some (λ (r : Answer). (tokens ⊛ ‵ (N.the-row .own r (v ∷ []))) ⊛ raw (ensured 𝓤 H A g.ended (g.clauses 𝓤 H A at-mem run) search-lfts search-args tt r)))) (id⊢ 𝓤 _) $ await ! tt $ pick ! (λ r.
-        split ! $ move ! (1 ∷ []) $ use1 W (some (λ (zs : Lasts g.ended search-lfts search-args). ‵ (lasts g.ended search-lfts search-args zs) ⊛ raw (fact 𝓤 (Answered set query room (record { answer = r; plan = last-plan zs }))))) (id⊢ 𝓤 _) $ pick ! (λ zs.
-        split ! $ move ! (1 ∷ []) $ heard ! (Answered set query room (record { answer = r; plan = last-plan zs })) (λ e. fsplit ! $ drop ! $ fsplit ! $ drop ! $ fsplit ! $ drop ! $ fsplit ! $ drop ! $ fsplit ! $ drop ! $ fsplit ! $ drop ! $ fsplit ! $ drop ! $ fsplit ! $ drop ! $ fsplit ! $ fsplit ! $ move ! (1 ∷ []) $ feqL ! (λ l.
+        use1 W (later (some (λ (r : Answer). (tokens ⊛ ‵ (N.the-row .own r (v ∷ []))) ⊛ raw (ensured 𝓤 H A g.ended (g.clauses 𝓤 H A at-mem run) search-lfts search-args tt r)))) (id⊢ 𝓤 _) $
+        await ! tt $ pick ! (λ r.
+        split ! $ move ! (1 ∷ []) $
+        use1 W (some (λ (zs : Lasts g.ended search-lfts search-args). ‵ (lasts g.ended search-lfts search-args zs)
+        ⊛ raw (fact 𝓤 (Left r (last-plan zs))))) (id⊢ 𝓤 _) $ pick ! (λ zs.
+        split ! $ move ! (1 ∷ []) $ heard ! (Left r (last-plan zs)) (λ e. fsplit ! $ drop ! $ fsplit ! $ drop ! $
+        fsplit ! $ drop ! $ fsplit ! $ drop ! $ fsplit ! $ drop ! $ fsplit ! $ drop ! $ fsplit ! $ drop ! $ fsplit ! $
+        drop ! $ fsplit ! $ fsplit ! $ move ! (1 ∷ []) $ feqL ! (λ l.
         -- [the plan's last list; true; the tokens and the answer; the tally and its token; room for _15; …]
-        move ! (2 ∷ []) $ split ! $ move ! (1 ∷ []) $ peeks ! N.the-row (Is N.the-row) (shows 𝓤 H A N.the-row) r (v ∷ []) (λ is. drop ! $
-        -- [the tokens; the plan's last list; true; the tally and its token; room for _15; …; room for _14; …; _13; …; _12; …; room for _11; …; _10; …]
+        move ! (2 ∷ []) $ split ! $ move ! (1 ∷ []) $
+        peeks ! N.the-row (Is N.the-row) (shows 𝓤 H A N.the-row) r (v ∷ []) (λ is. drop ! $
+        -- [the tokens; the plan's last list; true; the tally and its token; room for _15; …; room for _14; …; _13; …;
+        -- _12; …; room for _11; …; _10; …]
         land ! (from ! (stop !)) (init ! 12 refl (LL.lawful N.the-type N′.the-laws 𝓤 H A W .typed r _ is .0)) $
         rewrite ! 12 (λ (y : Val). ‵ (fat fullShare N′.mir l₁₁ 0 y)) (ap only (LL.tells N.the-type N′.the-laws r _ is)) refl $
         assigns ! (addr ! (from ! (hop ! (look ! 14 refl) (stop !)))) (from ! (stop !)) (init ! 4 refl (tt, tt)) $
         -- `update`
-        move ! (3 ∷ []) $ use1 W (raw (Update 𝓤 H A at-mem run .pre (to-update r))) (goes-update r (LL.owed N.the-type N′.the-laws r _ is .0 .1) (LL.owed N.the-type N′.the-laws r _ is .1 .1 .1 .0 .1)) $
+        move ! (3 ∷ []) $
+        use1 W (raw (Update 𝓤 H A at-mem run .pre (to-update r))) (goes-update r (LL.owed N.the-type N′.the-laws r _ is .0 .1) (LL.owed N.the-type N′.the-laws r _ is .1 .1 .1 .0 .1)) $
         calls-at ! fm (Update 𝓤 H A at-mem run) known-update (to-update r)
         (and-then ! (load ! (from ! (stop !)) (look ! 4 refl)) (and-then ! (load ! (from ! (fld ! refl (stop !))) (look-in ! 12 (sub ! 0 refl (whole !)))) (and-then ! (load ! (from ! (fld ! refl (stop !))) (look-in ! 12 (sub ! 3 refl (whole !)))) (no-more !)))) (λ w.
-        use1 W (later (some (λ (n : Unit {0}). ((‵ (flft κ₄ q₄) ⊛ ‵ ftrue) ⊛ ‵ (Nothing .own n (w ∷ []))) ⊛ some (λ (ts : Lasts u.ended (κ₄, tt) (update-args r)). ‵ (lasts u.ended (κ₄, tt) (update-args r) ts) ⊛ raw (fact 𝓤 (Updated (tally .now) r (ts .0))))))) (id⊢ 𝓤 _) $ await ! tt $ pick ! (λ n.
-        split ! $ move ! (1 ∷ []) $ pick ! (λ ts. split ! $ move ! (1 ∷ []) $ heard ! (Updated (tally .now) r (ts .0)) (λ d. fsplit ! $
+        use1 W (later (some (λ (n : Unit {0}). ((‵ (flft κ₄ q₄) ⊛ ‵ ftrue) ⊛ ‵ (Nothing .own n (w ∷ []))) ⊛ some (λ (ts : Lasts u.ended (κ₄, tt) (update-args r)). ‵ (lasts u.ended (κ₄, tt) (update-args r) ts) ⊛ raw (fact 𝓤 (Updated (tally .now) r (ts .0))))))) (id⊢ 𝓤 _) $
+        await ! tt $ pick ! (λ n.
+        split ! $ move ! (1 ∷ []) $ pick ! (λ ts. split ! $ move ! (1 ∷ []) $
+        heard ! (Updated (tally .now) r (ts .0)) (λ d. fsplit ! $
         move ! (2 ∷ []) $ split ! $ move ! (1 ∷ []) $ feqL ! (λ unit. split ! $
-        -- [the token; true; the tally's last value; true; the tokens; the plan's last list; true; _15; …; room for _14; …]
+        -- [the token; true; the tally's last value; true; the tokens; the plan's last list; true; _15; …; room for _14;
+        -- …]
         land ! (from ! (stop !)) (init ! 9 refl (subst (λ (y : Val). Holds (hasTy tyUnit y) × WT y) (sym (ap only unit)) (tt, tt))) $
         assigns ! (of-opd ! (load ! (from ! (stop !)) (look ! 15 refl))) (from ! (stop !)) (init ! 37 refl (typed r v is)) $
-        returns ! (look ! 37 refl) $ forget ! 7 refl $ forget ! 9 refl $ forget ! 11 refl $ forget ! 13 refl $ forget ! 15 refl $ forget ! 17 refl $ forget ! 19 refl $ forget ! 21 refl $ forget ! 23 refl $ forget ! 25 refl $ forget ! 27 refl $ forget ! 29 refl $ forget ! 31 refl $ forget ! 33 refl $ forget ! 35 refl $ forget ! 37 refl $
-        move ! (37 ∷ 38 ∷ []) $ free1 ! $ move ! (35 ∷ 36 ∷ []) $ free1 ! $ move ! (33 ∷ 34 ∷ []) $ free1 ! $ move ! (31 ∷ 32 ∷ []) $ free1 ! $ move ! (29 ∷ 30 ∷ []) $ free1 ! $ move ! (27 ∷ 28 ∷ []) $ free1 ! $ move ! (25 ∷ 26 ∷ []) $ free1 ! $ move ! (23 ∷ 24 ∷ []) $ free1 ! $ move ! (21 ∷ 22 ∷ []) $ free1 ! $ move ! (19 ∷ 20 ∷ []) $ free1 ! $ move ! (17 ∷ 18 ∷ []) $ free1 ! $ move ! (15 ∷ 16 ∷ []) $ free1 ! $ move ! (13 ∷ 14 ∷ []) $ free1 ! $ move ! (11 ∷ 12 ∷ []) $ free1 ! $ move ! (9 ∷ 10 ∷ []) $ free1 ! $ move ! (7 ∷ 8 ∷ []) $ free1 ! $ free0 ! $
-        keep ! (4 ∷ 0 ∷ 5 ∷ 2 ∷ []) $ by ! (exits r (last-plan zs) (ts .0) (is-val r v is) l e d))))))))))))))))))))))))))))
+        returns ! (look ! 37 refl) $ forget ! 7 refl $ forget ! 9 refl $ forget ! 11 refl $ forget ! 13 refl $
+        forget ! 15 refl $ forget ! 17 refl $ forget ! 19 refl $ forget ! 21 refl $ forget ! 23 refl $
+        forget ! 25 refl $ forget ! 27 refl $ forget ! 29 refl $ forget ! 31 refl $ forget ! 33 refl $
+        forget ! 35 refl $ forget ! 37 refl $
+        move ! (37 ∷ 38 ∷ []) $ free1 ! $ move ! (35 ∷ 36 ∷ []) $ free1 ! $ move ! (33 ∷ 34 ∷ []) $ free1 ! $
+        move ! (31 ∷ 32 ∷ []) $ free1 ! $ move ! (29 ∷ 30 ∷ []) $ free1 ! $ move ! (27 ∷ 28 ∷ []) $ free1 ! $
+        move ! (25 ∷ 26 ∷ []) $ free1 ! $ move ! (23 ∷ 24 ∷ []) $ free1 ! $ move ! (21 ∷ 22 ∷ []) $ free1 ! $
+        move ! (19 ∷ 20 ∷ []) $ free1 ! $ move ! (17 ∷ 18 ∷ []) $ free1 ! $ move ! (15 ∷ 16 ∷ []) $ free1 ! $
+        move ! (13 ∷ 14 ∷ []) $ free1 ! $ move ! (11 ∷ 12 ∷ []) $ free1 ! $ move ! (9 ∷ 10 ∷ []) $ free1 ! $
+        move ! (7 ∷ 8 ∷ []) $ free1 ! $ free0 ! $
+        keep ! (4 ∷ 0 ∷ 5 ∷ 2 ∷ []) $
+        by ! (exits r (last-plan zs) (ts .0) (is-val r v is) l e d))))))))))))))))))))))))))))
 
 module _ {M : Type 1} (𝓤 : URA M) (H : Heap 𝓤) (A : Atoms 𝓤) (W : Given 𝓤 H A) (at-mem : Memory → SProp 𝓤) (run : Routine → Fun 𝓤) where
   search-with-tally-walks : (C : Calls 𝓤 H) (Λ : Loops 𝓤 H) → FmC 𝓤 H (W .laws) C → Triple 𝓤 (C #search·search) (Search 𝓤 H A at-mem run) → Triple 𝓤 (C #tally·update) (Update 𝓤 H A at-mem run)
