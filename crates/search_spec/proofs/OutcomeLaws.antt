@@ -26,6 +26,14 @@ use Rattle.search_spec.proofs.MeaningLaws.{refused-outcome, refused-no-
 
 -- ── The check of the table, and the query's own causes ───────────────────────────────────────────
 
+-- a check that passes, or refuses the table's marks, has judged what the check and the query share
+pub checked-ready : (set : RuleSet) (reach : ℕ) (table : List ℕ)
+    → (checkOutcome set reach table ≡ 14) ⊎ (checkOutcome set reach table ≡ 0)
+    → Ready set reach (length table)
+checked-ready set reach table =
+    let m = check-meaning set reach table in
+    ⊎-elim (λ e. m .notAccepted .0 e .0) (λ e. m .accepts .0 e .0)
+
 -- the last cause of a table and of a query: the table is not accepted
 abbrev pub unaccepted : RuleSet → Query → Cause
 unaccepted set query = (14, not (accepted set (query .reach) (query .table)))
@@ -51,10 +59,6 @@ module _ (set : RuleSet) (query : Query) where
   past-shared : Ready set (query .reach) (length (query .table)) → (later : List Cause) → firstRefusal (shared ++ later) ≡ firstRefusal later
   unfolding tableCauses buildOutcome
   past-shared r later = refusal-append shared later (λ e. omega arith, (λ e. omega arith, (λ e. omega arith, tt))) (build-ready-iff set (query .reach) (length (query .table)) .1 r)
-
-  -- a check that passes, or refuses the table's marks, has judged what is shared
-  pub checked-ready : (checked ≡ 14) ⊎ (checked ≡ 0) → Ready set (query .reach) (length (query .table))
-  checked-ready = let m = check-meaning set (query .reach) (query .table) in ⊎-elim (λ e. m .notAccepted .0 e .0) (λ e. m .accepts .0 e .0)
 
   -- then the query's own causes decide in turn, and last the check's
   module _ (room : ℕ) (r : Ready set (query .reach) (length (query .table))) where

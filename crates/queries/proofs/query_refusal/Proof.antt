@@ -46,7 +46,7 @@ ready : (c : tie.Joined1) → Ready (startOf c .args .set) (startOf c .args .rea
 ready c =
     let s = startOf c in
     let e = sym (c .before .check-table .ensures .0) in
-    checked-ready (s .args .set) (queryOf s 0 0)
+    checked-ready (s .args .set) (s .args .reach) (s .args .table .now)
     (⊎-elim (λ w. inl (e ∙ w .1 .left)) (λ w. inr (e ∙ w .left)) (c .if1 .came))
 
 start-fits-requires : tie.Need-start-fits-requires

@@ -145,7 +145,8 @@ wholeProgress set query =
       floor = leastCost (ruleCost set) 65535 (drop (query .stepLimit) visits);
     }
 
--- what a query comes to: the first cause for which it is refused; if none holds, with the progress of the whole search
+-- what a query comes to: the first cause for which it is refused, and no progress; if none holds, the progress of the
+-- whole search
 unfoldable pub exploration : RuleSet → Query → ℕ → Exploration
 exploration set query room =
     let refusal = firstRefusal (queryCauses set query room) in
