@@ -22,28 +22,41 @@ use Rattle.planner_spec.specs.TextMacro.{macroBytes, macroSize, macroOf,
 -- ── Which byte stands where ──────────────────────────────────────────────────────────────────────
 
 module _ (m : Macro) (conditionSize : length (m .condition) ≡ 16) (effectSize : length (m .effect) ≡ 16) where
+  -- what stands behind the condition
+  abbrev behindCondition : List ℕ
+  behindCondition = m .effect ++ entryBytes (m .cost)
+
   pub bytes-34 : length (macroBytes m) ≡ 34
   unfolding macroBytes
-  bytes-34 = omega (arith, length-append (m .condition) (m .effect ++ entryBytes (m .cost)), length-append (m .effect) (entryBytes (m .cost)), conditionSize, effectSize)
+  bytes-34 =
+      omega (
+        arith,
+        length-append (m .condition) behindCondition,
+        length-append (m .effect) (entryBytes (m .cost)),
+        conditionSize,
+        effectSize,
+      )
 
   pub byte-condition : (i : ℕ) → i < 16 → getD (macroBytes m) i 0 ≡ getD (m .condition) i 0
   unfolding macroBytes
-  byte-condition i h = List·getD-append (m .condition) (m .effect ++ entryBytes (m .cost)) 0 i (omega (arith, conditionSize))
+  byte-condition i h = List·getD-append (m .condition) behindCondition 0 i (omega (arith, conditionSize))
 
-  -- behind the condition
-  behind : (i : ℕ) → 16 ≤ i → getD (macroBytes m) i 0 ≡ getD (m .effect ++ entryBytes (m .cost)) (i - 16) 0
+  behind : (i : ℕ) → 16 ≤ i → getD (macroBytes m) i 0 ≡ getD behindCondition (i - 16) 0
   unfolding macroBytes
   behind i h =
       let e : i ≡ length (m .condition) + (i - 16) = omega (arith, conditionSize) in
-      ap (λ k. getD (m .condition ++ (m .effect ++ entryBytes (m .cost))) k 0) e ∙ getD-append-add (m .condition) (m .effect ++ entryBytes (m .cost)) (i - 16) 0
+      ap (λ k. getD (m .condition ++ behindCondition) k 0) e ∙ getD-append-add (m .condition) behindCondition (i - 16) 0
 
   pub byte-effect : (i : ℕ) → 16 ≤ i → i < 32 → getD (macroBytes m) i 0 ≡ getD (m .effect) (i - 16) 0
-  byte-effect i h k = behind i h ∙ List·getD-append (m .effect) (entryBytes (m .cost)) 0 (i - 16) (omega (arith, effectSize))
+  byte-effect i h k =
+      behind i h ∙ List·getD-append (m .effect) (entryBytes (m .cost)) 0 (i - 16) (omega (arith, effectSize))
 
   pub byte-cost : (i : ℕ) → 32 ≤ i → getD (macroBytes m) i 0 ≡ getD (entryBytes (m .cost)) (i - 32) 0
   byte-cost i h =
       let e : i - 16 ≡ length (m .effect) + (i - 32) = omega (arith, effectSize) in
-      behind i (omega arith) ∙ ap (λ k. getD (m .effect ++ entryBytes (m .cost)) k 0) e ∙ getD-append-add (m .effect) (entryBytes (m .cost)) (i - 32) 0
+      behind i (omega arith)
+      ∙ ap (λ k. getD behindCondition k 0) e
+      ∙ getD-append-add (m .effect) (entryBytes (m .cost)) (i - 32) 0
 
   -- ── Read back ──────────────────────────────────────────────────────────────────────────────────
 
@@ -55,7 +68,8 @@ module _ (m : Macro) (conditionSize : length (m .condition) ≡ 16) (effectSize 
         ∙ ap (λ l. m .condition ++ l) (append-assoc (m .effect) (entryBytes (m .cost)) rest)
 
     condition-back : take 16 (macroBytes m ++ rest) ≡ m .condition
-    condition-back = ap (take 16) parts ∙ take-at (m .condition) (m .effect ++ (entryBytes (m .cost) ++ rest)) 16 conditionSize
+    condition-back =
+        ap (take 16) parts ∙ take-at (m .condition) (m .effect ++ (entryBytes (m .cost) ++ rest)) 16 conditionSize
 
     effect-back : take 16 (drop 16 (macroBytes m ++ rest)) ≡ m .effect
     effect-back =

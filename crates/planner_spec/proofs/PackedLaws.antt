@@ -33,7 +33,12 @@ module _ (answer : Answer) (fits : Fits answer) where
   -- so the number stands for the answer
   pub unpacked-packed : unpacked (packed answer) ≡ answer
   unfolding unpacked
-  unpacked-packed = λ i. record { outcome = packed-outcome i; cost = packed-cost i; length = packed-length i; steps = packed-steps i }
+  unpacked-packed = λ i. record {
+    outcome = packed-outcome i;
+    cost = packed-cost i;
+    length = packed-length i;
+    steps = packed-steps i;
+  }
 
   -- it fits 64 bits
   pub packed-fits : packed answer < 18446744073709551616

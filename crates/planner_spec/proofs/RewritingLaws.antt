@@ -1,7 +1,7 @@
 -- A rule file read and written again: what the answer and the buffer mean, and how large the numbers are.
 -- Assumes nothing.
 use mathlib.Core.Path.{_≡_, refl, sym, ap, subst, _∙_}
-use mathlib.Core.Logic.{_≢_, inl, inr, ⊎-elim}
+use mathlib.Core.Logic.{_↔_, _≢_, inl, inr, ⊎-elim}
 use mathlib.Core.List.{List}
 use Prim.Native.Nat.{ℕ, _/_, _%_, _≤_, _<_}
 use native.Mathlib.Omega.{arith}
@@ -31,17 +31,26 @@ module _ (text : List ℕ) (room : ℕ) where
   abbrev pub Rewrites : Written → List ℕ → Type 0
   Rewrites answer buffer = (answer ≡ rewritten text room) × (buffer ≡ rewrittenBuffer text room)
 
-  pub not-read : reading text .outcome ≢ 0 → Rewrites (record { outcome = reading text .outcome; length = 0 }) (replicate room 0)
+  pub not-read : reading text .outcome ≢ 0
+      → Rewrites (record { outcome = reading text .outcome; length = 0 }) (replicate room 0)
   unfolding rewritten rewrittenBuffer
-  not-read n = (sym (of-refused text (λ set. written set room) (λ k. record { outcome = k; length = 0 }) n), sym (of-refused text (λ set. writtenBuffer set room) (λ k. replicate room 0) n))
+  not-read n = (
+    sym (of-refused text (λ set. written set room) (λ k. record { outcome = k; length = 0 }) n),
+    sym (of-refused text (λ set. writtenBuffer set room) (λ k. replicate room 0) n),
+  )
 
-  pub was-read : reading text .outcome ≡ 0 → Rewrites (written (reading text .set) room) (writtenBuffer (reading text .set) room)
+  pub was-read : reading text .outcome ≡ 0
+      → Rewrites (written (reading text .set) room) (writtenBuffer (reading text .set) room)
   unfolding rewritten rewrittenBuffer
-  was-read h = (sym (of-read text (λ set. written set room) (λ k. record { outcome = k; length = 0 }) h), sym (of-read text (λ set. writtenBuffer set room) (λ k. replicate room 0) h))
+  was-read h = (
+    sym (of-read text (λ set. written set room) (λ k. record { outcome = k; length = 0 }) h),
+    sym (of-read text (λ set. writtenBuffer set room) (λ k. replicate room 0) h),
+  )
 
   -- ── What they mean ─────────────────────────────────────────────────────────────────────────────
 
-  not-read-means : reading text .outcome ≢ 0 → RewriteMeaning text room (record { outcome = reading text .outcome; length = 0 }) (replicate room 0)
+  not-read-means : reading text .outcome ≢ 0
+      → RewriteMeaning text room (record { outcome = reading text .outcome; length = 0 }) (replicate room 0)
   not-read-means n =
       record {
         again = (λ e. absurd (n e), λ w. absurd (n (accepted-iff text .1 (w .0))));
@@ -61,13 +70,13 @@ module _ (text : List ℕ) (room : ℕ) where
     same-length : length (render set) ≡ length text
     same-length = ap length (read-written text set (read-as text taken) .1)
 
-    fits-iff : (written set room .outcome ≡ 0 → length text ≤ room) × (length text ≤ room → written set room .outcome ≡ 0)
+    fits-iff : (written set room .outcome ≡ 0) ↔ (length text ≤ room)
     fits-iff = (
       λ e. omega (arith, same-length, writes-iff set room .0 e .1),
       λ h. ap (λ (answer : Written). answer .outcome) (file-again text set room (read-as text taken) h .0),
     )
 
-    long-iff : (written set room .outcome ≡ 8 → room < length text) × (room < length text → written set room .outcome ≡ 8)
+    long-iff : (written set room .outcome ≡ 8) ↔ (room < length text)
     long-iff = (
       λ e. omega (arith, same-length, short-iff set room .0 e .1),
       λ h. short-iff set room .1 (read-written text set (read-as text taken) .0, omega (arith, same-length)),
@@ -96,12 +105,17 @@ module _ (text : List ℕ) (room : ℕ) where
         }
 
   -- what is left so has its meaning
-  pub rewrites-mean : {answer : Written} {buffer : List ℕ} → Rewrites answer buffer → RewriteMeaning text room answer buffer
+  pub rewrites-mean : {answer : Written} {buffer : List ℕ} → Rewrites answer buffer
+      → RewriteMeaning text room answer buffer
   rewrites-mean {answer} {buffer} w =
-      ⊎-elim (λ h. moved (was-read h) (was-read-means h)) (λ n. moved (not-read n) (not-read-means n)) (equal? (reading text .outcome) 0)
+      ⊎-elim (λ h. moved (was-read h) (was-read-means h)) (λ n. moved (not-read n) (not-read-means n))
+      (equal? (reading text .outcome) 0)
     where
-      moved : {a : Written} {b : List ℕ} → Rewrites a b → RewriteMeaning text room a b → RewriteMeaning text room answer buffer
-      moved {a} {b} v m = subst (RewriteMeaning text room answer) (v .1 ∙ sym (w .1)) (subst (λ x. RewriteMeaning text room x b) (v .0 ∙ sym (w .0)) m)
+      moved : {a : Written} {b : List ℕ} → Rewrites a b → RewriteMeaning text room a b
+          → RewriteMeaning text room answer buffer
+      moved {a} {b} v m =
+          subst (RewriteMeaning text room answer) (v .1 ∙ sym (w .1))
+          (subst (λ x. RewriteMeaning text room x b) (v .0 ∙ sym (w .0)) m)
 
   -- ── How large the numbers are ──────────────────────────────────────────────────────────────────
 
@@ -111,8 +125,11 @@ module _ (text : List ℕ) (room : ℕ) where
     rewrite-outcome =
         ⊎-elim (λ h.
         let f = accepted-iff text .0 h in
-        ⊎-elim (λ s. omega (arith, means .tooLong .1 (f, s))) (λ s. omega (arith, means .again .1 (f, s))) (below? room (length text)))
-        (λ n. omega (arith, reading-bound text, means .asRead (reading text .outcome) (omega arith) (reading-bound text) .1 refl))
+        ⊎-elim (λ s. omega (arith, means .tooLong .1 (f, s))) (λ s. omega (arith, means .again .1 (f, s)))
+        (below? room (length text)))
+        (λ n.
+        let same = means .asRead (reading text .outcome) (omega arith) (reading-bound text) .1 refl in
+        omega (arith, reading-bound text, same))
         (equal? (reading text .outcome) 0)
 
     -- the length is at most that of the longest file
@@ -126,7 +143,8 @@ module _ (text : List ℕ) (room : ℕ) where
 
   -- packed, the answer can be taken apart
   pub rewrite-packed : (answer : Written) (buffer : List ℕ) → answer ≡ rewritten text room
-      → RewriteMeaning text room answer buffer → (r : ℕ) → r ≡ packedLength (answer .outcome) (answer .length % lengthLimit)
+      → RewriteMeaning text room answer buffer
+      → (r : ℕ) → r ≡ packedLength (answer .outcome) (answer .length % lengthLimit)
       → (r ≡ packedRewritten text room)
       × RewriteMeaning text room (record { outcome = r % 256; length = r / 256 }) buffer
   unfolding packedRewritten

@@ -1,7 +1,7 @@
 -- What the entries on tables give of a text that is read and of one that is refused, and what it means; and that the
 -- length that is told can be built, and what is built passes the check.
 -- Assumes nothing.
-use mathlib.Core.Path.{_≡_, refl, sym, ap, subst, _∙_}
+use mathlib.Core.Path.{_≡_, sym, ap, subst, _∙_}
 use mathlib.Core.Logic.{_≢_, ⊎-elim}
 use mathlib.Core.List.{List}
 use Prim.Native.Nat.{ℕ, _/_, _%_, _≤_, _<_}
@@ -46,15 +46,17 @@ module _ (text : List ℕ) (reach : ℕ) where
   unfolding textTableSize
   size-read = of-read text _ _
 
-  pub size-refused : reading text .outcome ≢ 0 → textTableSize text reach ≡ record { outcome = reading text .outcome; length = 0 }
+  pub size-refused : reading text .outcome ≢ 0
+      → textTableSize text reach ≡ record { outcome = reading text .outcome; length = 0 }
   unfolding textTableSize
   size-refused = of-refused text _ _
 
   -- the outcome fits one byte
   pub size-byte : textTableSize text reach .outcome < 256
   size-byte =
-      ⊎-elim (λ e. omega (arith, ap (λ (a : TableSize). a .outcome) (size-read e), size-outcome (reading text .set) reach))
-      (λ h. omega (arith, ap (λ (a : TableSize). a .outcome) (size-refused h), reading-byte text)) (equal? (reading text .outcome) 0)
+      let outcome : TableSize → ℕ = λ answer. answer .outcome in
+      ⊎-elim (λ e. omega (arith, ap outcome (size-read e), size-outcome (reading text .set) reach))
+      (λ h. omega (arith, ap outcome (size-refused h), reading-byte text)) (equal? (reading text .outcome) 0)
 
   pub text-size-meaning : TextSizeMeaning text reach (textTableSize text reach)
   text-size-meaning =
@@ -93,15 +95,19 @@ module _ (text : List ℕ) (reach : ℕ) where
 
 module _ (text : List ℕ) (reach size : ℕ) where
   pub build-read : reading text .outcome ≡ 0
-      → (textBuildOutcome text reach size ≡ buildOutcome (reading text .set) reach size) × (textBuiltBuffer text reach size ≡ builtBuffer (reading text .set) reach size)
+      → (textBuildOutcome text reach size ≡ buildOutcome (reading text .set) reach size)
+      × (textBuiltBuffer text reach size ≡ builtBuffer (reading text .set) reach size)
   unfolding textBuildOutcome textBuiltBuffer
   build-read e = (of-read text _ _ e, of-read text _ _ e)
 
-  pub build-refused : reading text .outcome ≢ 0 → (textBuildOutcome text reach size ≡ reading text .outcome) × (textBuiltBuffer text reach size ≡ replicate size 0)
+  pub build-refused : reading text .outcome ≢ 0
+      → (textBuildOutcome text reach size ≡ reading text .outcome)
+      × (textBuiltBuffer text reach size ≡ replicate size 0)
   unfolding textBuildOutcome textBuiltBuffer
   build-refused h = (of-refused text _ _ h, of-refused text _ _ h)
 
-  pub text-build-meaning : TextBuildMeaning text reach size (textBuildOutcome text reach size) (textBuiltBuffer text reach size)
+  pub text-build-meaning :
+      TextBuildMeaning text reach size (textBuildOutcome text reach size) (textBuiltBuffer text reach size)
   text-build-meaning =
       let set = reading text .set in
       let outcome = textBuildOutcome text reach size in
@@ -115,7 +121,8 @@ module _ (text : List ℕ) (reach size : ℕ) where
       }
 
 module _ (text : List ℕ) (reach : ℕ) (table : List ℕ) where
-  pub check-read : reading text .outcome ≡ 0 → textCheckOutcome text reach table ≡ checkOutcome (reading text .set) reach table
+  pub check-read : reading text .outcome ≡ 0
+      → textCheckOutcome text reach table ≡ checkOutcome (reading text .set) reach table
   unfolding textCheckOutcome
   check-read = of-read text _ _
 
@@ -144,7 +151,8 @@ module _ (text : List ℕ) (reach : ℕ) where
   is-read n refused z = ⊎-elim (λ e. e) (λ h. absurd (h (sym (refused h) ∙ z))) (equal? (reading text .outcome) 0)
 
   -- a table of the length that is told can be built
-  pub told-builds : textTableSize text reach .outcome ≡ 0 → textBuildOutcome text reach (textTableSize text reach .length) ≡ 0
+  pub told-builds : textTableSize text reach .outcome ≡ 0
+      → textBuildOutcome text reach (textTableSize text reach .length) ≡ 0
   told-builds z =
       let told = textTableSize text reach in
       let e = is-read (told .outcome) (λ h. text-size-meaning text reach .refusedText h .0) z in
@@ -155,7 +163,8 @@ module _ (text : List ℕ) (reach : ℕ) where
       )
 
   -- and the check passes what a build leaves
-  pub built-passes : (size : ℕ) → textBuildOutcome text reach size ≡ 0 → textCheckOutcome text reach (textBuiltBuffer text reach size) ≡ 0
+  pub built-passes : (size : ℕ) → textBuildOutcome text reach size ≡ 0
+      → textCheckOutcome text reach (textBuiltBuffer text reach size) ≡ 0
   built-passes size z =
       let e = is-read (textBuildOutcome text reach size) (λ h. build-refused text reach size h .0) z in
       let w = build-read text reach size e in

@@ -12,6 +12,9 @@ ghost use Rattle.theory_spec.specs.Lists.{padded};
 ghost use Rattle.model_spec.specs.Refusals.{firstRefusal};
 ghost use Rattle.planner_spec.specs.TextMacro.{macroBytes, macroSize, textMacro, macroBuffer, TextMacroMeaning};
 
+// How many bytes a macro has.
+const MACRO_SIZE: usize = 34;
+
 // Byte i of a macro: condition, effect, and the cost, low byte first; 0 beyond them.
 fn macro_byte(m: Macro, i: usize) -> u8
     ensures { λ r. ⌜ r ≡ getD (macroBytes m) i 0 ⌝ }
@@ -50,7 +53,7 @@ fn fitted(outcome: u8, room: usize) -> u8
     ensures { λ r. ⌜
         r ≡ firstRefusal ((outcome, not (eqb outcome 0)) ∷ (8, ltb room macroSize) ∷ []) ⌝ }
 {
-    if 34 <= room {
+    if MACRO_SIZE <= room {
         return outcome;
     }
     if outcome == 0 {

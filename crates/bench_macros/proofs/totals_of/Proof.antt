@@ -6,7 +6,8 @@ use Rattle.bench_macros.proofs.totals_of.Statement.{statement}
 use Rattle.bench_macros.proofs.totals_of.Tie as tie
 
 abbrev Inv-loop : tie.InvT-loop
-Inv-loop set totals₀ first₀ second₀ counter₀ totals first second counter = (counter ≤ 1000000) × (first < 31) × (second < 31)
+Inv-loop set totals₀ first₀ second₀ counter₀ totals first second counter =
+    (counter ≤ 1000000) × (first < 31) × (second < 31)
 
 abbrev μ-loop : tie.MeasureT-loop
 μ-loop set totals₀ first₀ second₀ counter₀ totals first second counter = 1000000 - counter

@@ -16,7 +16,8 @@ sequence-count-requires c κs = search needs
 returns-2 : tie.Need-returns-2
 returns-2 c =
     let s = c .before .before .args in
-    omega (arith, c .sequence-count .ensures, count-bound (s .count) (min (s .reach) 3) (omega (arith, c .before .if1 .left)) (omega arith))
+    let bound = count-bound (s .count) (min (s .reach) 3) (omega (arith, c .before .if1 .left)) (omega arith) in
+    omega (arith, c .sequence-count .ensures, bound)
 
 pub entries-of-spec : {M : Type 1} → statement M
 entries-of-spec = tie.close (tie.spec returns sequence-count-requires returns-2)

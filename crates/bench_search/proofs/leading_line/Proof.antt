@@ -8,7 +8,8 @@ use Rattle.bench_search.proofs.leading_line.Statement.{statement}
 use Rattle.bench_search.proofs.leading_line.Tie as tie
 
 abbrev Inv-loop : tie.InvT-loop
-Inv-loop text numbers₀ count₀ size₀ numbers count size = (count ≤ length numbers₀) × (length numbers ≡ length numbers₀) × (size ≤ length text)
+Inv-loop text numbers₀ count₀ size₀ numbers count size =
+    (count ≤ length numbers₀) × (length numbers ≡ length numbers₀) × (size ≤ length text)
 
 abbrev μ-loop : tie.MeasureT-loop
 μ-loop text numbers₀ count₀ size₀ numbers count size = length numbers₀ - count

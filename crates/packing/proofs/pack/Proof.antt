@@ -41,4 +41,17 @@ unfolding packed
 returns c = omega arith
 
 pub pack-spec : {M : Type 1} → statement M
-pack-spec = tie.close (tie.spec cast-result cast-result-2 mul-result add-result cast-result-3 mul-result-2 add-result-2 cast-result-4 mul-result-3 add-result-3 returns)
+pack-spec =
+    tie.close
+    (tie.spec
+    cast-result
+    cast-result-2
+    mul-result
+    add-result
+    cast-result-3
+    mul-result-2
+    add-result-2
+    cast-result-4
+    mul-result-3
+    add-result-3
+    returns)

@@ -83,4 +83,6 @@ returns-2 c =
     (read text room _ (file .read .ensures .0) _ (branch .if1 .left) _ (out .0) (out .1))
 
 pub rewrite-spec : {M : Type 1} → statement M
-rewrite-spec = tie.close (tie.spec read-requires fill-from-requires same-length returns write-requires same-length-2 returns-2)
+rewrite-spec =
+    tie.close
+    (tie.spec read-requires fill-from-requires same-length returns write-requires same-length-2 returns-2)

@@ -1,6 +1,6 @@
 -- `text_macros::fitted` meets its contract, by the tests on the way.
 -- Assumes nothing.
-use mathlib.Core.Path.{_≡_, sym}
+use mathlib.Core.Path.{sym}
 use native.Mathlib.Omega.{arith}
 use Rattle.planner_spec.proofs.TextMacroLaws.{fitted-refused, fitted-short, fitted-whole}
 use Rattle.text_macros.proofs.fitted.Statement.{statement}

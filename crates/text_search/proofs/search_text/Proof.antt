@@ -89,4 +89,6 @@ returns-2 c =
     (branch .if1 .left) _ (searching .search .ensures .0))
 
 pub search-text-spec : {M : Type 1} → statement M
-search-text-spec = tie.close (tie.spec read-requires fill-from-requires same-length returns search-requires same-length-2 returns-2)
+search-text-spec =
+    tie.close
+    (tie.spec read-requires fill-from-requires same-length returns search-requires same-length-2 returns-2)

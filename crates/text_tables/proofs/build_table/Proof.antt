@@ -1,4 +1,5 @@
--- `text_tables::build_table` meets its contract: what either way out gives and leaves is the definitions', which have their meaning.
+-- `text_tables::build_table` meets its contract: what either way out gives and leaves is the definitions', which have
+-- their meaning.
 -- Assumes nothing.
 use mathlib.Core.Path.{_≡_, sym, ap, _∙_}
 use mathlib.Core.List.{List}
@@ -14,8 +15,12 @@ use Rattle.text_tables.proofs.build_table.Statement.{statement}
 use Rattle.text_tables.proofs.build_table.Tie as tie
 
 -- the definitions' outcome and table have their meaning
-answers : (text : List ℕ) (reach size r : ℕ) (table : List ℕ) → r ≡ textBuildOutcome text reach size → table ≡ textBuiltBuffer text reach size
-    → (r ≡ textBuildOutcome text reach size) × (table ≡ textBuiltBuffer text reach size) × TextBuildMeaning text reach size r table
+answers : (text : List ℕ) (reach size r : ℕ) (table : List ℕ)
+    → r ≡ textBuildOutcome text reach size
+    → table ≡ textBuiltBuffer text reach size
+    → (r ≡ textBuildOutcome text reach size)
+    × (table ≡ textBuiltBuffer text reach size)
+    × TextBuildMeaning text reach size r table
 answers text reach size r table e t = (e, t, rw (e, t) (text-build-meaning text reach size))
 
 read-requires : tie.Need-read-requires
@@ -37,7 +42,8 @@ returns c =
     let size = length (s .table .now) in
     let e = ap (λ (r : Reading). r .outcome) (file .read .ensures .0) in
     let w = build-refused text (s .reach) size (λ z. branch .if1 .taken (e ∙ z)) in
-    answers text (s .reach) size _ _ (e ∙ sym (w .0)) (zeroed .fill-from .ensures ∙ filled-whole 0 (s .table .now) ∙ sym (w .1))
+    answers text (s .reach) size _ _ (e ∙ sym (w .0))
+    (zeroed .fill-from .ensures ∙ filled-whole 0 (s .table .now) ∙ sym (w .1))
 
 build-table-requires : tie.Need-build-table-requires
 build-table-requires c κs = search needs
@@ -56,7 +62,8 @@ returns-2 c =
     let e = ap (λ (r : Reading). r .outcome) (file .read .ensures .0) in
     let same = ap (λ (r : Reading). r .set) (file .read .ensures .0) in
     let w = build-read text (s .reach) size (sym e ∙ branch .if1 .left) in
-    answers text (s .reach) size _ _ (built .build-table .ensures .0 ∙ ap (λ set. buildOutcome set (s .reach) size) same ∙ sym (w .0))
+    answers text (s .reach) size _ _
+    (built .build-table .ensures .0 ∙ ap (λ set. buildOutcome set (s .reach) size) same ∙ sym (w .0))
     (built .build-table .ensures .1 ∙ ap (λ set. builtBuffer set (s .reach) size) same ∙ sym (w .1))
 
 pub build-table-spec : {M : Type 1} → statement M

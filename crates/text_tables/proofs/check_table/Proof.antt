@@ -12,8 +12,10 @@ use Rattle.text_tables.proofs.check_table.Statement.{statement}
 use Rattle.text_tables.proofs.check_table.Tie as tie
 
 -- the definition's outcome has its meaning
-answers : (text : List ℕ) (reach : ℕ) (table : List ℕ) (r : ℕ) → r ≡ textCheckOutcome text reach table → (r ≡ textCheckOutcome text reach table) × TextCheckMeaning text reach table r
-answers text reach table r e = (e, subst (TextCheckMeaning text reach table) (sym e) (text-check-meaning text reach table))
+answers : (text : List ℕ) (reach : ℕ) (table : List ℕ) (r : ℕ) → r ≡ textCheckOutcome text reach table
+    → (r ≡ textCheckOutcome text reach table) × TextCheckMeaning text reach table r
+answers text reach table r e =
+    (e, subst (TextCheckMeaning text reach table) (sym e) (text-check-meaning text reach table))
 
 read-requires : tie.Need-read-requires
 read-requires c κs = search needs
@@ -23,7 +25,8 @@ returns c =
     let file = c .before in
     let s = file .before .before .before .args in
     let e = ap (λ (r : Reading). r .outcome) (file .read .ensures .0) in
-    answers (s .text .now) (s .reach) (s .table .now) _ (e ∙ sym (check-refused (s .text .now) (s .reach) (s .table .now) (λ z. c .if1 .taken (e ∙ z))))
+    let w = check-refused (s .text .now) (s .reach) (s .table .now) (λ z. c .if1 .taken (e ∙ z)) in
+    answers (s .text .now) (s .reach) (s .table .now) _ (e ∙ sym w)
 
 check-table-requires : tie.Need-check-table-requires
 check-table-requires c κs = search needs
@@ -36,7 +39,8 @@ returns-2 c =
     let e = ap (λ (r : Reading). r .outcome) (file .read .ensures .0) in
     let same = ap (λ (r : Reading). r .set) (file .read .ensures .0) in
     let w = check-read (s .text .now) (s .reach) (s .table .now) (sym e ∙ branch .if1 .left) in
-    answers (s .text .now) (s .reach) (s .table .now) _ (c .check-table .ensures .0 ∙ ap (λ set. checkOutcome set (s .reach) (s .table .now)) same ∙ sym w)
+    answers (s .text .now) (s .reach) (s .table .now) _
+    (c .check-table .ensures .0 ∙ ap (λ set. checkOutcome set (s .reach) (s .table .now)) same ∙ sym w)
 
 pub check-table-spec : {M : Type 1} → statement M
 check-table-spec = tie.close (tie.spec read-requires returns check-table-requires returns-2)
