@@ -21,7 +21,6 @@ use Rattle.tables_spec.specs.Table.{entryJustified, accepted}
 use Rattle.tables_spec.specs.Answers.{tableCauses, buildOutcome, builtBuffer, checkCauses, checkOutcome}
 use Rattle.search_spec.specs.Query.{Query, startFits, goalFits, meetsGoal, visitedBy, plansFor}
 use Rattle.search_spec.specs.Searched.{Searched, queryCauses, cheapestPlan, searchCauses, shownPlan, searchedWith, searched}
-use Rattle.planner_spec.specs.OfText.{ofText}
 use Rattle.planner_spec.specs.Packed.{searchedText, packedSearch}
 use Rattle.report_spec.specs.Listing.{listing}
 
