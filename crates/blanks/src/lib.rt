@@ -1,4 +1,6 @@
 // The unused rule and the empty set: what stands where nothing was read.
+use model_spec::PLACE_COUNT;
+use model_spec::RULE_PLACES;
 use model_spec::Rule;
 use model_spec::RuleSet;
 ghost use mathlib.Core.Path.{_≡_};
@@ -10,8 +12,8 @@ pub fn blank_rule() -> Rule
 {
     Rule {
         cost: 0,
-        condition: [0; 16],
-        effect: [0; 16],
+        condition: [0; PLACE_COUNT],
+        effect: [0; PLACE_COUNT],
     }
 }
 
@@ -22,8 +24,8 @@ pub fn empty_set() -> RuleSet
     let blank = blank_rule();
     RuleSet {
         positions: 0,
-        sizes: [0; 16],
+        sizes: [0; PLACE_COUNT],
         count: 0,
-        rules: [blank; 31],
+        rules: [blank; RULE_PLACES],
     }
 }

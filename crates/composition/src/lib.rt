@@ -2,6 +2,9 @@
 // come back by value, without a lent buffer; so `value_in` and `followed` do by value what `states`' `value` and
 // `after` do on arrays that are lent.
 use macros_spec::Vectors;
+use model_spec::FIRST_VARIABLE;
+use model_spec::MAX_POSITIONS;
+use model_spec::PLACE_COUNT;
 use model_spec::Rule;
 use model_spec::RuleSet;
 ghost use mathlib.Core.Path.{_≡_};
@@ -9,6 +12,7 @@ ghost use mathlib.Core.Bool.{cond};
 ghost use mathlib.Core.Option.{some, none};
 ghost use Prim.Native.Nat.{min, max, _+_, _<_};
 ghost use lib.Dec.{ltb};
+ghost use Rattle.model_spec.specs.Limits.{placeCount, firstVariable};
 ghost use Rattle.model_spec.specs.States.{valueOf, valuesOf};
 ghost use Rattle.model_spec.specs.Validity.{Valid};
 ghost use Rattle.macros_spec.specs.Composition.{ownVariables, emptyLines, replaced, unified, extended};
@@ -30,23 +34,23 @@ fn smaller(x: u8, y: u8) -> u8
 }
 
 // What an entry stands for in a vector of entries.
-fn value_in(entries: [u8; 16], entry: u8) -> u8
+fn value_in(entries: [u8; PLACE_COUNT], entry: u8) -> u8
     ensures { λ r. ⌜ r ≡ valueOf entry entries ⌝ }
 {
-    if entry < 16 {
+    if entry < FIRST_VARIABLE {
         return entry;
     }
-    let place = (entry % 16) as usize;
+    let place = (entry % FIRST_VARIABLE) as usize;
     entries[place]
 }
 
 // The entries with `to` in the place of every `from`.
-fn replaced(from: u8, to: u8, entries: [u8; 16]) -> [u8; 16]
+fn replaced(from: u8, to: u8, entries: [u8; PLACE_COUNT]) -> [u8; PLACE_COUNT]
     ensures { λ r. ⌜ r ≡ replaced from to entries ⌝ }
 {
     let mut changed = entries;
     let mut i: usize = 0;
-    while i < 16 {
+    while i < PLACE_COUNT {
         if changed[i] == from {
             changed[i] = to;
         }
@@ -61,26 +65,30 @@ fn denied() -> Vectors
 {
     Vectors {
         admitted: false,
-        condition: [0; 16],
-        effect: [0; 16],
+        condition: [0; PLACE_COUNT],
+        effect: [0; PLACE_COUNT],
     }
 }
 
 // Place by place, what the effect holds made equal to what the next condition asks, both read in the effect as it now
 // stands. Nothing is replaced where the two agree.
-fn unified(condition: [u8; 16], effect: [u8; 16], asked: [u8; 16]) -> Vectors
+fn unified(
+    condition: [u8; PLACE_COUNT],
+    effect: [u8; PLACE_COUNT],
+    asked: [u8; PLACE_COUNT],
+) -> Vectors
     ensures { λ r. ⌜ r ≡ asVectors (unified asked 0 (record { condition = condition; effect = effect })) ⌝ }
 {
     let mut needed = condition;
     let mut held = effect;
     let mut i: usize = 0;
-    while i < 16 {
+    while i < PLACE_COUNT {
         let have = held[i];
         let want = value_in(held, asked[i]);
         if have != want {
             let from = larger(have, want);
             let to = smaller(have, want);
-            if from < 16 {
+            if from < FIRST_VARIABLE {
                 return denied();
             }
             let next_needed = replaced(from, to, needed);
@@ -98,12 +106,12 @@ fn unified(condition: [u8; 16], effect: [u8; 16], asked: [u8; 16]) -> Vectors
 }
 
 // The entries that an effect leads to; all of them are read in the vector before.
-fn followed(effect: [u8; 16], entries: [u8; 16]) -> [u8; 16]
+fn followed(effect: [u8; PLACE_COUNT], entries: [u8; PLACE_COUNT]) -> [u8; PLACE_COUNT]
     ensures { λ r. ⌜ r ≡ valuesOf effect entries ⌝ }
 {
     let mut next = effect;
     let mut i: usize = 0;
-    while i < 16 {
+    while i < PLACE_COUNT {
         next[i] = value_in(entries, effect[i]);
         i += 1;
     }
@@ -139,22 +147,22 @@ pub fn extended(sequence: Vectors, rule: Rule) -> Vectors
 
 // The entry at place i of the empty sequence's vectors: the variable of the place, and 0 beyond the positions.
 fn own_variable(positions: u8, i: u8) -> u8
-    requires { ⌜ i < 16 ⌝ }
-    ensures { λ r. ⌜ r ≡ cond (ltb i positions) (16 + i) 0 ⌝ }
+    requires { ⌜ i < placeCount ⌝ }
+    ensures { λ r. ⌜ r ≡ cond (ltb i positions) (firstVariable + i) 0 ⌝ }
 {
     if i < positions {
-        return 16 + i;
+        return FIRST_VARIABLE + i;
     }
     0
 }
 
 // The condition of the empty sequence, which is its effect too.
-fn own_variables(positions: u8) -> [u8; 16]
+fn own_variables(positions: u8) -> [u8; PLACE_COUNT]
     ensures { λ r. ⌜ r ≡ ownVariables positions ⌝ }
 {
-    let mut entries = [0u8; 16];
+    let mut entries = [0u8; PLACE_COUNT];
     let mut i: u8 = 0;
-    while i < 16 {
+    while i < MAX_POSITIONS {
         entries[i as usize] = own_variable(positions, i);
         i += 1;
     }

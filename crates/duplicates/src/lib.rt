@@ -1,9 +1,12 @@
 // Whether a set has duplicates (document 01: twins): two rules with equal conditions and equal effects.
+use model_spec::MAX_RULES;
+use model_spec::RULE_PLACES;
 use model_spec::Rule;
 use model_spec::RuleSet;
 use states::same_entries;
 ghost use mathlib.Core.Path.{_≡_};
 ghost use Prim.Native.Nat.{min, _<_};
+ghost use Rattle.model_spec.specs.Limits.{maxRules};
 ghost use Rattle.model_spec.specs.Validity.{duplicate, repeated, hasDuplicates};
 
 // Whether two rules are duplicates: equal conditions and equal effects.
@@ -22,7 +25,7 @@ fn duplicate(a: Rule, b: Rule) -> bool
 
 // Whether the rule at place k is a duplicate of an earlier one.
 fn repeated(set: RuleSet, k: usize) -> bool
-    requires { ⌜ k < 31 ⌝ }
+    requires { ⌜ k < maxRules ⌝ }
     ensures { λ r. ⌜ r ≡ repeated (set .rules) k ⌝ }
 {
     let rule = set.rules[k];
@@ -39,17 +42,17 @@ fn repeated(set: RuleSet, k: usize) -> bool
 
 // How many rules a set has, by its number of rules: it has places for 31.
 fn rule_count(count: u8) -> usize
-    ensures { λ r. ⌜ r ≡ min count 31 ⌝ }
+    ensures { λ r. ⌜ r ≡ min count maxRules ⌝ }
 {
-    if count < 31 {
+    if count < MAX_RULES {
         return count as usize;
     }
-    31
+    RULE_PLACES
 }
 
 // Whether some of the used rules are duplicates.
 pub fn has_duplicates(set: RuleSet) -> bool
-    ensures { λ r. ⌜ r ≡ hasDuplicates (set .rules) (min (set .count) 31) ⌝ }
+    ensures { λ r. ⌜ r ≡ hasDuplicates (set .rules) (min (set .count) maxRules) ⌝ }
 {
     let count = rule_count(set.count);
     let mut k: usize = 0;

@@ -1,5 +1,7 @@
 // A rule file, laid over a buffer.
 use list_output::put_numbers;
+use model_spec::MAX_RULES;
+use model_spec::RULE_PLACES;
 use model_spec::RuleSet;
 use number_output::put_number_line;
 use output::put_word;
@@ -8,14 +10,19 @@ ghost use mathlib.Core.Path.{_≡_};
 ghost use Prim.Native.Nat.{min};
 ghost use lib.ListN.{take};
 ghost use Rattle.theory_spec.specs.Lists.{flat};
+ghost use Rattle.model_spec.specs.Limits.{maxRules};
 ghost use Rattle.files_spec.specs.File.{ruleText, render};
 ghost use Rattle.output_laws.specs.how.Overlay.{Laid};
 
 // How many of the 31 places for rules are shown.
 fn rules_shown(count: u8) -> usize
-    ensures { λ r. ⌜ r ≡ min count 31 ⌝ }
+    ensures { λ r. ⌜ r ≡ min count maxRules ⌝ }
 {
-    if count < 31 { count as usize } else { 31 }
+    if count < MAX_RULES {
+        count as usize
+    } else {
+        RULE_PLACES
+    }
 }
 
 // Lays the lines of all rules.

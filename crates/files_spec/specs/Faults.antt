@@ -8,6 +8,7 @@ use Prim.Native.Nat.{ℕ, _-_, _≤_, _<_}
 use Prim.Native.String.{String}
 use lib.ListN.{length, getD, take}
 use Rattle.theory_spec.specs.Lists.{flat, within, every}
+use Rattle.model_spec.specs.Limits.{maxPositions, maxSize, maxRules, maxRuleCost}
 use Rattle.model_spec.specs.Validity.{entryLimited, conditionPlaced, effectPlaced, conditionValid, sizesValid}
 use Rattle.model_spec.specs.Validity.{ruleValid, wellFormed}
 use Rattle.model_spec.specs.declared.Rule.{Rule}
@@ -75,10 +76,10 @@ pub record ListFault (itemText : ℕ → List ℕ) (faultless : ItemTest) (fault
 
 -- a size
 unfoldable pub sizeFaultless : ItemTest
-sizeFaultless before size = within 2 16 size
+sizeFaultless before size = within 2 maxSize size
 
 abbrev pub SizeFault : ℕ → ItemFault
-SizeFault n before ending text = NumberFault n 2 16 ending text
+SizeFault n before ending text = NumberFault n 2 maxSize ending text
 
 -- an entry of a condition (document 01: the `if` line)
 unfoldable pub conditionFaultless : ℕ → List ℕ → ItemTest
@@ -108,13 +109,13 @@ EffectFault n positions sizes condition before ending text =
 
 -- in the lines of a rule
 pub data RuleFault (n positions : ℕ) (sizes text : List ℕ) : Type 0 where
-  inCost : LineFault n "cost=" (NumberFault n 0 255 lineFeed) text → RuleFault n positions sizes text
-  inCondition : (cost : ℕ) (tail : List ℕ) → cost ≤ 255
+  inCost : LineFault n "cost=" (NumberFault n 0 maxRuleCost lineFeed) text → RuleFault n positions sizes text
+  inCondition : (cost : ℕ) (tail : List ℕ) → cost ≤ maxRuleCost
       → text ≡ line "cost=" (numeral cost ∷ []) ++ tail
       → LineFault n "if="
       (ListFault entryText (conditionFaultless positions sizes) (ConditionFault n positions sizes) positions) tail
       → RuleFault n positions sizes text
-  inEffect : (cost : ℕ) (condition tail : List ℕ) → cost ≤ 255 → conditionValid positions sizes condition ≡ true
+  inEffect : (cost : ℕ) (condition tail : List ℕ) → cost ≤ maxRuleCost → conditionValid positions sizes condition ≡ true
       → text ≡ line "cost=" (numeral cost ∷ []) ++ (line "if=" (map entryText (take positions condition)) ++ tail)
       → LineFault n "then="
       (ListFault entryText
@@ -123,16 +124,17 @@ pub data RuleFault (n positions : ℕ) (sizes text : List ℕ) : Type 0 where
 
 -- in the file: n is 1, 2 or 3
 pub data FileFault (n : ℕ) (text : List ℕ) : Type 0 where
-  inPositions : LineFault n "positions=" (NumberFault n 1 16 lineFeed) text → FileFault n text
-  inSizes : (positions : ℕ) (tail : List ℕ) → within 1 16 positions ≡ true
+  inPositions : LineFault n "positions=" (NumberFault n 1 maxPositions lineFeed) text → FileFault n text
+  inSizes : (positions : ℕ) (tail : List ℕ) → within 1 maxPositions positions ≡ true
       → text ≡ line "positions=" (numeral positions ∷ []) ++ tail
       → LineFault n "sizes=" (ListFault numeral sizeFaultless (SizeFault n) positions) tail → FileFault n text
-  inCount : (positions : ℕ) (sizes tail : List ℕ) → within 1 16 positions ≡ true → sizesValid positions sizes ≡ true
+  inCount : (positions : ℕ) (sizes tail : List ℕ)
+      → within 1 maxPositions positions ≡ true → sizesValid positions sizes ≡ true
       → text ≡ line "positions=" (numeral positions ∷ [])
       ++ (line "sizes=" (map numeral (take positions sizes)) ++ tail)
-      → LineFault n "rules=" (NumberFault n 1 31 lineFeed) tail → FileFault n text
+      → LineFault n "rules=" (NumberFault n 1 maxRules lineFeed) tail → FileFault n text
   inRules : (positions : ℕ) (sizes : List ℕ) (count : ℕ) (before : List Rule) (tail : List ℕ)
-      → within 1 16 positions ≡ true → sizesValid positions sizes ≡ true → within 1 31 count ≡ true
+      → within 1 maxPositions positions ≡ true → sizesValid positions sizes ≡ true → within 1 maxRules count ≡ true
       → length before < count → every (ruleValid positions sizes) before ≡ true
       → text ≡ line "positions=" (numeral positions ∷ [])
       ++ (line "sizes=" (map numeral (take positions sizes))

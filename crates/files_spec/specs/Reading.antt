@@ -8,6 +8,7 @@ use Prim.Native.String.{String}
 use lib.Dec.{ltb, eqb}
 use lib.ListN.{length, getD, drop}
 use Rattle.theory_spec.specs.Lists.{within, padded}
+use Rattle.model_spec.specs.Limits.{maxPositions, placeCount, maxSize, maxRules, maxRuleCost}
 use Rattle.model_spec.specs.Rules.{blankRule, emptySet}
 use Rattle.model_spec.specs.Validity.{conditionPlaced, effectPlaced, hasDuplicates, wellFormed, Valid}
 use Rattle.model_spec.specs.declared.Rule.{Rule}
@@ -93,7 +94,7 @@ Item = List ℕ → ℕ → List ℕ → Parsed ℕ
 
 -- a size: a number from 2 to 16
 unfoldable pub sizeItem : Item
-sizeItem before ending text = numberWithin 2 16 ending text
+sizeItem before ending text = numberWithin 2 maxSize ending text
 
 -- an entry of an `if` line, judged for its place after those before it
 unfoldable pub conditionItem : ℕ → List ℕ → Item
@@ -129,12 +130,12 @@ unfoldable pub listLine : String → Item → ℕ → List ℕ → Parsed (List 
 listLine key item n text =
     andRead (literal (bytes key) text) (λ _ rest.
     andRead (itemsAfter item n [] rest) (λ items rest.
-    parsed (padded 16 0 items) rest))
+    parsed (padded placeCount 0 items) rest))
 
 -- the lines of a rule
 unfoldable pub ruleLines : ℕ → List ℕ → List ℕ → Parsed Rule
 ruleLines positions sizes text =
-    andRead (numberLine "cost=" 0 255 text) (λ cost rest.
+    andRead (numberLine "cost=" 0 maxRuleCost text) (λ cost rest.
     andRead (listLine "if=" (conditionItem positions sizes) positions rest) (λ condition rest.
     andRead (listLine "then=" (effectItem positions sizes condition) positions rest) (λ effect rest.
     parsed (record { cost = cost; condition = condition; effect = effect }) rest)))
@@ -148,16 +149,16 @@ rulesAfter positions sizes (suc n) before text =
 -- the lines of n rules; the rules beyond them are zero throughout
 unfoldable pub ruleList : ℕ → List ℕ → ℕ → List ℕ → Parsed (List Rule)
 ruleList positions sizes n text =
-    andRead (rulesAfter positions sizes n [] text) (λ rules rest. parsed (padded 31 blankRule rules) rest)
+    andRead (rulesAfter positions sizes n [] text) (λ rules rest. parsed (padded maxRules blankRule rules) rest)
 
 -- ── The file ─────────────────────────────────────────────────────────────────────────────────────
 
 -- the lines of the file
 unfoldable pub fileLines : List ℕ → Parsed RuleSet
 fileLines text =
-    andRead (numberLine "positions=" 1 16 text) (λ positions rest.
+    andRead (numberLine "positions=" 1 maxPositions text) (λ positions rest.
     andRead (listLine "sizes=" sizeItem positions rest) (λ sizes rest.
-    andRead (numberLine "rules=" 1 31 rest) (λ count rest.
+    andRead (numberLine "rules=" 1 maxRules rest) (λ count rest.
     andRead (ruleList positions sizes count rest) (λ rules rest.
     parsed (record { positions = positions; sizes = sizes; count = count; rules = rules }) rest))))
 

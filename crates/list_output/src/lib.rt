@@ -1,5 +1,6 @@
 // The comma lists of a rule file, each laid over a buffer from a place on.
 use bounded::smaller;
+use model_spec::FIRST_VARIABLE;
 use number_output::put_number;
 use output::put;
 use separators::ending;
@@ -18,7 +19,7 @@ fn put_byte(text: &mut [u8], at: usize, n: u8) -> usize
 fn put_entry(text: &mut [u8], at: usize, entry: u8) -> usize
     ensures { λ r. ⌜ Laid at (entryText entry) (now (text .entry)) r (now (text .exit)) ⌝ }
 {
-    if entry < 16 {
+    if entry < FIRST_VARIABLE {
         return put_byte(text, at, entry);
     }
     let next = put(text, at, b'x');

@@ -2,6 +2,8 @@
 // marked.
 use bounded::at_most;
 use bounded::smaller;
+use model_spec::MAX_RULES;
+use model_spec::MOVE_LIMIT;
 use tables::KEPT;
 use tables::entry_at;
 use tables::sequence_count;
@@ -10,12 +12,16 @@ ghost use Prim.Native.Nat.{_+_, _*_, _-_, _≤_, _<_, min};
 ghost use lib.ListN.{take, drop};
 ghost use Rattle.theory_spec.specs.how.Indices.{indexOf, sequenceOf};
 ghost use Rattle.theory_spec.specs.how.Recursion.{last};
+ghost use Rattle.model_spec.specs.Limits.{maxRules, moveLimit};
 ghost use Rattle.tables_spec.specs.Table.{sequenceCount};
 ghost use Rattle.search_laws.specs.how.Lookup.{LooksUp};
 
+// The moves of a plan, which the depth counts.
+const MOVES: u8 = MOVE_LIMIT as u8;
+
 // The index of a sequence of one to three rules without its first rule.
 fn tail_index(count: usize, index: usize) -> usize
-    requires { ⌜ (1 ≤ count) × (count ≤ 31) × (1 ≤ index) × (index < sequenceCount count 3) ⌝ }
+    requires { ⌜ (1 ≤ count) × (count ≤ maxRules) × (1 ≤ index) × (index < sequenceCount count 3) ⌝ }
     ensures { λ r. ⌜ (r ≡ indexOf count (drop 1 (sequenceOf count 3 index))) × (r < index) ⌝ }
 {
     let before = (index - 1) / count;
@@ -32,9 +38,9 @@ fn tail_index(count: usize, index: usize) -> usize
 // The look-up of a table, by how many rules the set has, of which 31 count: a suffix of a sequence is the sequence
 // itself, or one of what is left without its first rule.
 pub fn lookup_of(count: u8, table: &[u8]) -> [u8; 30784]
-    ensures { λ r. ⌜ LooksUp (min count 31) (now (table .entry)) r ⌝ }
+    ensures { λ r. ⌜ LooksUp (min count maxRules) (now (table .entry)) r ⌝ }
 {
-    let rules = at_most(count, 31);
+    let rules = at_most(count, MAX_RULES);
     let end = smaller(table.len() / 2, sequence_count(rules, 3));
     // a byte for each sequence of at most three of 31 rules
     let mut blocked = [0u8; 30784];
@@ -53,14 +59,18 @@ pub fn lookup_of(count: u8, table: &[u8]) -> [u8; 30784]
 
 // How many moves of the plan count: at most all.
 fn moves_of(depth: u8) -> usize
-    ensures { λ r. ⌜ r ≡ min depth 32 ⌝ }
+    ensures { λ r. ⌜ r ≡ min depth moveLimit ⌝ }
 {
-    if depth < 32 { depth as usize } else { 32 }
+    if depth < MOVES {
+        depth as usize
+    } else {
+        MOVE_LIMIT
+    }
 }
 
 // The place in the look-up of a sequence's last `reach` - 1 rules, at most two, with rule 1 behind them; the places of
 // the other rules follow. The sequence is the first `depth` moves of the plan.
-pub fn first_place(reach: usize, count: u8, plan: &[u8; 32], depth: u8) -> usize
+pub fn first_place(reach: usize, count: u8, plan: &[u8; MOVE_LIMIT], depth: u8) -> usize
     ensures { λ r. ⌜
         r ≡ indexOf count (last (min (reach - 1) 2) (take depth (now (plan .entry)))) * count + 1 ⌝ }
 {

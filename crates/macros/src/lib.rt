@@ -4,6 +4,8 @@ use composition::extended;
 use macros_spec::Macro;
 use macros_spec::MacroAnswer;
 use macros_spec::Vectors;
+use model_spec::MOVE_LIMIT;
+use model_spec::PLACE_COUNT;
 use model_spec::RuleSet;
 use moves::cost_of;
 use moves::has_unknown_move;
@@ -11,6 +13,7 @@ use moves::rule_at;
 use validity::is_valid;
 ghost use mathlib.Core.Path.{_≡_};
 ghost use Rattle.theory_spec.specs.Sequences.{Numbered};
+ghost use Rattle.model_spec.specs.Limits.{maxRules};
 ghost use Rattle.model_spec.specs.Refusals.{firstRefusal};
 ghost use Rattle.model_spec.specs.Validity.{WellFormed};
 ghost use Rattle.macros_spec.specs.Composition.{composed, asVectors};
@@ -25,8 +28,8 @@ fn refused(outcome: u8) -> MacroAnswer
     MacroAnswer {
         outcome,
         result: Macro {
-            condition: [0; 16],
-            effect: [0; 16],
+            condition: [0; PLACE_COUNT],
+            effect: [0; PLACE_COUNT],
             cost: 0,
         },
     }
@@ -34,7 +37,7 @@ fn refused(outcome: u8) -> MacroAnswer
 
 // The vectors of a sequence.
 fn composed(set: RuleSet, moves: &[u8]) -> Vectors
-    requires { ⌜ Numbered 31 (now moves) ⌝ }
+    requires { ⌜ Numbered maxRules (now moves) ⌝ }
     ensures { λ r. ⌜ r ≡ asVectors (composed set (now (moves .entry))) ⌝ }
 {
     let mut sequence = empty(set);
@@ -54,7 +57,7 @@ fn macro_for(set: RuleSet, moves: &[u8]) -> MacroAnswer
         (let sequence = now (moves .entry) in
         r ≡ macroWith set sequence (firstRefusal (sequenceCauses set sequence))) ⌝ }
 {
-    if 32 < moves.len() {
+    if MOVE_LIMIT < moves.len() {
         return refused(11);
     }
     if has_unknown_move(set.count, moves) {

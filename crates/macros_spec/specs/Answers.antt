@@ -9,6 +9,7 @@ use lib.Dec.{ltb, eqb}
 use lib.ListN.{length, replicate}
 use Rattle.theory_spec.specs.Lists.{any, within}
 use Rattle.theory_spec.specs.Sequences.{Sequence, Numbered}
+use Rattle.model_spec.specs.Limits.{placeCount, moveLimit}
 use Rattle.model_spec.specs.Refusals.{Cause, firstRefusal}
 use Rattle.model_spec.specs.States.{State, applicable, successor}
 use Rattle.model_spec.specs.Rules.{StateOf, runIn, sequenceCost, admitted}
@@ -22,7 +23,7 @@ use Rattle.macros_spec.specs.declared.MacroAnswer.{MacroAnswer}
 -- admits the sequence
 abbrev pub sequenceCauses : RuleSet → List ℕ → List Cause
 sequenceCauses set moves =
-    (11, ltb 32 (length moves))
+    (11, ltb moveLimit (length moves))
     ∷ (13, any (λ r. not (within 1 (set .count) r)) moves)
     ∷ (17, not (admitted set moves))
     ∷ []
@@ -33,7 +34,7 @@ macroCauses set moves = (7, not (valid set)) ∷ sequenceCauses set moves
 
 -- a refused macro
 abbrev pub blankMacro : Macro
-blankMacro = record { condition = replicate 16 0; effect = replicate 16 0; cost = 0 }
+blankMacro = record { condition = replicate placeCount 0; effect = replicate placeCount 0; cost = 0 }
 
 -- the macro of vectors at a cost
 abbrev pub macroAt : ℕ → Option Lines → Macro
@@ -73,14 +74,15 @@ Admitted set q = (s : State) × (t : State) × StateOf set s × (runIn set q s �
 -- what is judged before the sequence's states: the set is valid, there are at most 32 moves, and each is a rule's
 -- number
 abbrev pub Judged : RuleSet → Sequence → Type 0
-Judged set moves = Valid set × ((length moves ≤ 32) × Numbered (set .count) moves)
+Judged set moves = Valid set × ((length moves ≤ moveLimit) × Numbered (set .count) moves)
 
 -- what an answer tells: each number exactly if its cause holds and none before it does, 0 exactly if none holds; what
 -- the macro means; what it costs at most; and what a refusal leaves
 pub record Meaning (set : RuleSet) (moves : Sequence) (answer : MacroAnswer) : Type 0 where
   pub notValid : (answer .outcome ≡ 7) ↔ (Valid set → ⊥)
-  pub tooLong : (answer .outcome ≡ 11) ↔ (Valid set × (32 < length moves))
-  pub unknownMove : (answer .outcome ≡ 13) ↔ (Valid set × ((length moves ≤ 32) × (Numbered (set .count) moves → ⊥)))
+  pub tooLong : (answer .outcome ≡ 11) ↔ (Valid set × (moveLimit < length moves))
+  pub unknownMove : (answer .outcome ≡ 13)
+      ↔ (Valid set × ((length moves ≤ moveLimit) × (Numbered (set .count) moves → ⊥)))
   pub denied : (answer .outcome ≡ 17) ↔ (Judged set moves × Denied set moves)
   pub given : (answer .outcome ≡ 0) ↔ (Judged set moves × Admitted set moves)
   pub means : answer .outcome ≡ 0 → Means set moves (answer .result)

@@ -8,6 +8,7 @@ use Prim.Native.Nat.{ℕ, suc, _+_, min, max}
 use lib.Dec.{ltb, eqb}
 use lib.ListN.{getD, replicate}
 use Rattle.theory_spec.specs.Sequences.{Sequence}
+use Rattle.model_spec.specs.Limits.{placeCount, firstVariable}
 use Rattle.model_spec.specs.States.{places, isConstant, valueOf, valuesOf}
 use Rattle.model_spec.specs.Rules.{ruleAt}
 use Rattle.model_spec.specs.declared.Rule.{Rule}
@@ -21,7 +22,7 @@ pub record Lines : Type 0 where
 
 -- each position's variable in its own place, 0 beyond the positions
 unfoldable pub ownVariables : ℕ → List ℕ
-ownVariables positions = map (λ i. cond (ltb i positions) (16 + i) 0) places
+ownVariables positions = map (λ i. cond (ltb i positions) (firstVariable + i) 0) places
 
 -- the empty sequence's vectors
 unfoldable pub emptyLines : RuleSet → Lines
@@ -74,7 +75,7 @@ composed set q = composedFrom set q (some (emptyLines set))
 
 -- zeros where there are none
 abbrev pub asVectors : Option Lines → Vectors
-asVectors none = record { admitted = false; condition = replicate 16 0; effect = replicate 16 0 }
+asVectors none = record { admitted = false; condition = replicate placeCount 0; effect = replicate placeCount 0 }
 asVectors (some m) = record { admitted = true; condition = m .condition; effect = m .effect }
 
 -- and back; none where the code's mark says that there are none

@@ -9,6 +9,7 @@ use Prim.Native.Nat.{ℕ, min}
 use lib.Dec.{leb}
 use Rattle.theory_spec.specs.Lists.{every, within, same}
 use Rattle.theory_spec.specs.Sequences.{Sequence, Numbered}
+use Rattle.model_spec.specs.Limits.{maxRules}
 use Rattle.model_spec.specs.States.{State}
 use Rattle.model_spec.specs.Rules.{runIn, sequenceCost, RedundantIn}
 use Rattle.model_spec.specs.Validity.{Valid}
@@ -29,7 +30,7 @@ covers set a (some b) = endsIn (runIn set a (b .condition)) (b .effect)
 
 -- the number of a set's last rule; a set has places for 31
 abbrev pub lastNumber : RuleSet → ℕ
-lastNumber set = min (set .count) 31
+lastNumber set = min (set .count) maxRules
 
 -- b, with these vectors and this cost, is redundant with a, a sequence of the set's rules
 unfoldable pub redundantByLines : RuleSet → Option Lines → ℕ → Sequence → Bool

@@ -1,3 +1,4 @@
+pub mod Limits
 pub mod States
 pub mod Rules
 pub mod Validity

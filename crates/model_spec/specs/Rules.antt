@@ -8,6 +8,7 @@ use lib.ListN.{getD, replicate}
 use Rattle.theory_spec.specs.Lists.{every, onlyIf, isSome, same, any}
 use Rattle.theory_spec.specs.Sequences.{Sequence, run, costOf}
 use Rattle.theory_spec.specs.Pruning.{Redundant}
+use Rattle.model_spec.specs.Limits.{placeCount, maxRules}
 use Rattle.model_spec.specs.States.{State, applicable, successor, IsState, states}
 use Rattle.model_spec.specs.declared.Rule.{Rule}
 use Rattle.model_spec.specs.declared.RuleSet.{RuleSet}
@@ -18,11 +19,11 @@ noRule = record { cost = 0; condition = []; effect = [] }
 
 -- an unused rule: zero throughout
 abbrev pub blankRule : Rule
-blankRule = record { cost = 0; condition = replicate 16 0; effect = replicate 16 0 }
+blankRule = record { cost = 0; condition = replicate placeCount 0; effect = replicate placeCount 0 }
 
 -- the set with 0 positions and 0 rules, zero throughout
 abbrev pub emptySet : RuleSet
-emptySet = record { positions = 0; sizes = replicate 16 0; count = 0; rules = replicate 31 blankRule }
+emptySet = record { positions = 0; sizes = replicate placeCount 0; count = 0; rules = replicate maxRules blankRule }
 
 -- the rule of a number from 1 to the number of rules. No answer depends on what it gives of another number: such a move
 -- is refused first

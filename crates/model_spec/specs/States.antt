@@ -8,22 +8,23 @@ use Prim.Native.Nat.{ℕ, _<_, _%_}
 use lib.Dec.{ltb}
 use lib.ListN.{length, getD}
 use Rattle.theory_spec.specs.Lists.{flat, numbersFrom, same}
+use Rattle.model_spec.specs.Limits.{placeCount, firstVariable}
 
 abbrev pub State : Type 0
 State = List ℕ
 
 -- the sixteen places, from 0; position i stands at place i - 1
 abbrev pub places : List ℕ
-places = numbersFrom 0 16
+places = numbersFrom 0 placeCount
 
 -- an entry below 16 is that constant; 16 + k, for k from 0 to 15, is the variable of position k + 1 (document 01: `x`
 -- and k + 1). Other bytes are in no valid set
 abbrev pub isConstant : ℕ → Bool
-isConstant e = ltb e 16
+isConstant e = ltb e firstVariable
 
 -- what an entry stands for in a state: the constant, or what the state holds at the variable's position
 unfoldable pub valueOf : ℕ → State → ℕ
-valueOf e s = cond (isConstant e) e (getD s (e % 16) 0)
+valueOf e s = cond (isConstant e) e (getD s (e % firstVariable) 0)
 
 -- what a list of entries stands for in a state
 unfoldable pub valuesOf : List ℕ → State → List ℕ
@@ -43,7 +44,7 @@ width positions sizes i = cond (ltb i positions) (getD sizes i 0) 1
 
 -- a state of the sizes: sixteen values, each below its place's width
 abbrev pub IsState : ℕ → List ℕ → State → Type 0
-IsState positions sizes s = (length s ≡ 16) × ((i : ℕ) → i < 16 → getD s i 0 < width positions sizes i)
+IsState positions sizes s = (length s ≡ placeCount) × ((i : ℕ) → i < placeCount → getD s i 0 < width positions sizes i)
 
 -- the lists that hold at each place a value below the number given for it
 abbrev pub choices : List ℕ → List State

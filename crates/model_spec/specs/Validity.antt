@@ -7,6 +7,7 @@ use Prim.Native.Nat.{ℕ, _-_, _≤_, _<_}
 use lib.Dec.{leb, ltb, eqb}
 use lib.ListN.{length, getD, replicate}
 use Rattle.theory_spec.specs.Lists.{any, every, numbersFrom, within, same}
+use Rattle.model_spec.specs.Limits.{maxPositions, placeCount, maxSize, maxRules, maxRuleCost, firstVariable}
 use Rattle.model_spec.specs.States.{places, isConstant, width}
 use Rattle.model_spec.specs.Rules.{noRule, blankRule}
 use Rattle.model_spec.specs.declared.Rule.{Rule}
@@ -16,7 +17,7 @@ use Rattle.model_spec.specs.declared.RuleSet.{RuleSet}
 
 -- the place of a variable's position
 abbrev pub variablePlace : ℕ → ℕ
-variablePlace e = e - 16
+variablePlace e = e - firstVariable
 
 -- an entry at place i is within its limit: a constant below the size there, or the variable of one of the positions
 unfoldable pub entryLimited : ℕ → List ℕ → ℕ → ℕ → Bool
@@ -42,7 +43,7 @@ effectPlaced positions sizes condition i e =
 -- every entry of a condition is within its limit and in place
 unfoldable pub conditionValid : ℕ → List ℕ → List ℕ → Bool
 conditionValid positions sizes condition =
-    eqb (length condition) 16
+    eqb (length condition) placeCount
     && every (λ i.
     entryLimited positions sizes i (getD condition i 0)
     && conditionPlaced positions sizes condition i (getD condition i 0)) places
@@ -50,29 +51,31 @@ conditionValid positions sizes condition =
 -- every entry of an effect, after its condition
 unfoldable pub effectValid : ℕ → List ℕ → List ℕ → List ℕ → Bool
 effectValid positions sizes condition effect =
-    eqb (length effect) 16
+    eqb (length effect) placeCount
     && every (λ i.
     entryLimited positions sizes i (getD effect i 0)
     && effectPlaced positions sizes condition i (getD effect i 0)) places
 
 -- the size at place i: 2 to 16 for a position, 0 beyond
 unfoldable pub sizeValid : ℕ → List ℕ → ℕ → Bool
-sizeValid positions sizes i = cond (ltb i positions) (within 2 16 (getD sizes i 0)) (eqb (getD sizes i 0) 0)
+sizeValid positions sizes i = cond (ltb i positions) (within 2 maxSize (getD sizes i 0)) (eqb (getD sizes i 0) 0)
 
 -- every size
 unfoldable pub sizesValid : ℕ → List ℕ → Bool
-sizesValid positions sizes = eqb (length sizes) 16 && every (sizeValid positions sizes) places
+sizesValid positions sizes = eqb (length sizes) placeCount && every (sizeValid positions sizes) places
 
 -- a rule of the set: its cost from 0 to 255, and both its lines
 unfoldable pub ruleValid : ℕ → List ℕ → Rule → Bool
 ruleValid positions sizes rule =
-    leb (rule .cost) 255
+    leb (rule .cost) maxRuleCost
     && (conditionValid positions sizes (rule .condition)
     && effectValid positions sizes (rule .condition) (rule .effect))
 
 -- an unused rule is zero throughout
 unfoldable pub ruleBlank : Rule → Bool
-ruleBlank rule = eqb (rule .cost) 0 && (same (rule .condition) (replicate 16 0) && same (rule .effect) (replicate 16 0))
+ruleBlank rule =
+    eqb (rule .cost) 0
+    && (same (rule .condition) (replicate placeCount 0) && same (rule .effect) (replicate placeCount 0))
 
 -- the rule at place k: valid where it is used, blank beyond
 unfoldable pub ruleValidAt : RuleSet → ℕ → Bool
@@ -83,7 +86,7 @@ ruleValidAt set k =
 
 -- every rule
 unfoldable pub rulesValid : RuleSet → Bool
-rulesValid set = eqb (length (set .rules)) 31 && every (ruleValidAt set) (numbersFrom 0 31)
+rulesValid set = eqb (length (set .rules)) maxRules && every (ruleValidAt set) (numbersFrom 0 maxRules)
 
 -- two rules are duplicates (document 01: twins): their conditions and their effects are equal
 unfoldable pub duplicate : Rule → Rule → Bool
@@ -102,9 +105,9 @@ hasDuplicates rules n = any (repeated rules) (numbersFrom 0 n)
 -- valid but for duplicates: 1 to 16 positions, 1 to 31 rules, all sizes and rules valid
 unfoldable pub wellFormed : RuleSet → Bool
 wellFormed set =
-    within 1 16 (set .positions)
+    within 1 maxPositions (set .positions)
     && (sizesValid (set .positions) (set .sizes)
-    && (within 1 31 (set .count) && rulesValid set))
+    && (within 1 maxRules (set .count) && rulesValid set))
 
 -- the set is valid (document 01: sound)
 unfoldable pub valid : RuleSet → Bool
@@ -114,32 +117,32 @@ valid set = wellFormed set && not (hasDuplicates (set .rules) (set .count))
 
 -- an entry e at place i, whose variable, if it is one, has to stand at its own place of the condition
 pub record EntryValid (positions : ℕ) (sizes condition : List ℕ) (i e : ℕ) : Type 0 where
-  pub constant : e < 16 → e < width positions sizes i
-  pub position : 16 ≤ e → e - 16 < positions
-  pub equalSizes : 16 ≤ e → width positions sizes (e - 16) ≡ width positions sizes i
-  pub itself : 16 ≤ e → getD condition (e - 16) 0 ≡ e
+  pub constant : e < firstVariable → e < width positions sizes i
+  pub position : firstVariable ≤ e → e - firstVariable < positions
+  pub equalSizes : firstVariable ≤ e → width positions sizes (e - firstVariable) ≡ width positions sizes i
+  pub itself : firstVariable ≤ e → getD condition (e - firstVariable) 0 ≡ e
 
 -- the two lines of a rule, and of a macro
 pub record LinesValid (positions : ℕ) (sizes condition effect : List ℕ) : Type 0 where
-  pub conditionLength : length condition ≡ 16
-  pub effectLength : length effect ≡ 16
-  pub conditionEntries : (i : ℕ) → i < 16 → EntryValid positions sizes condition i (getD condition i 0)
-  pub notLater : (i : ℕ) → i < 16 → 16 ≤ getD condition i 0 → getD condition i 0 - 16 ≤ i
-  pub effectEntries : (i : ℕ) → i < 16 → EntryValid positions sizes condition i (getD effect i 0)
+  pub conditionLength : length condition ≡ placeCount
+  pub effectLength : length effect ≡ placeCount
+  pub conditionEntries : (i : ℕ) → i < placeCount → EntryValid positions sizes condition i (getD condition i 0)
+  pub notLater : (i : ℕ) → i < placeCount → firstVariable ≤ getD condition i 0 → getD condition i 0 - firstVariable ≤ i
+  pub effectEntries : (i : ℕ) → i < placeCount → EntryValid positions sizes condition i (getD effect i 0)
 
 -- the set is valid but for duplicates
 pub record WellFormed (set : RuleSet) : Type 0 where
-  pub positionLimits : (1 ≤ set .positions) × (set .positions ≤ 16)
-  pub sizesLength : length (set .sizes) ≡ 16
-  pub sizeLimits : (i : ℕ) → i < set .positions → (2 ≤ getD (set .sizes) i 0) × (getD (set .sizes) i 0 ≤ 16)
+  pub positionLimits : (1 ≤ set .positions) × (set .positions ≤ maxPositions)
+  pub sizesLength : length (set .sizes) ≡ placeCount
+  pub sizeLimits : (i : ℕ) → i < set .positions → (2 ≤ getD (set .sizes) i 0) × (getD (set .sizes) i 0 ≤ maxSize)
   pub sizesBeyond : (i : ℕ) → set .positions ≤ i → getD (set .sizes) i 0 ≡ 0
-  pub countLimits : (1 ≤ set .count) × (set .count ≤ 31)
-  pub rulesLength : length (set .rules) ≡ 31
-  pub costLimits : (k : ℕ) → k < set .count → getD (set .rules) k noRule .cost ≤ 255
+  pub countLimits : (1 ≤ set .count) × (set .count ≤ maxRules)
+  pub rulesLength : length (set .rules) ≡ maxRules
+  pub costLimits : (k : ℕ) → k < set .count → getD (set .rules) k noRule .cost ≤ maxRuleCost
   pub lines : (k : ℕ) → k < set .count
       → (let rule = getD (set .rules) k noRule in
       LinesValid (set .positions) (set .sizes) (rule .condition) (rule .effect))
-  pub rulesBeyond : (k : ℕ) → set .count ≤ k → k < 31 → getD (set .rules) k noRule ≡ blankRule
+  pub rulesBeyond : (k : ℕ) → set .count ≤ k → k < maxRules → getD (set .rules) k noRule ≡ blankRule
 
 -- the set is valid (document 01: sound)
 pub record Valid (set : RuleSet) : Type 0 where

@@ -1,10 +1,12 @@
 // A sequence given as moves, the numbers of rules: whether each is one, the rule of a number, and the sequence's cost.
+use model_spec::MAX_RULES;
 use model_spec::Rule;
 use model_spec::RuleSet;
 ghost use mathlib.Core.Path.{_≡_};
 ghost use mathlib.Core.Bool.{not};
 ghost use Prim.Native.Nat.{_-_, min};
 ghost use Rattle.theory_spec.specs.Lists.{any, within};
+ghost use Rattle.model_spec.specs.Limits.{maxRules};
 ghost use Rattle.model_spec.specs.Rules.{ruleAt, sequenceCost};
 
 // One more than a `u16` holds: what a dearer sequence is said to cost.
@@ -30,12 +32,12 @@ pub fn has_unknown_move(count: u8, moves: &[u8]) -> bool
 
 // The place of a number's rule among the 31 of a set: the first for 0, the last for a number above 31.
 fn place_of(number: u8) -> usize
-    ensures { λ r. ⌜ r ≡ min number 31 - 1 ⌝ }
+    ensures { λ r. ⌜ r ≡ min number maxRules - 1 ⌝ }
 {
     if number < 1 {
         return 0;
     }
-    if 31 < number {
+    if MAX_RULES < number {
         return 30;
     }
     (number - 1) as usize
@@ -43,7 +45,7 @@ fn place_of(number: u8) -> usize
 
 // The rule of a number; that of 1 for 0, and that of 31 for a larger number.
 pub fn rule_at(set: RuleSet, number: u8) -> Rule
-    ensures { λ r. ⌜ r ≡ ruleAt set (min number 31) ⌝ }
+    ensures { λ r. ⌜ r ≡ ruleAt set (min number maxRules) ⌝ }
 {
     let place = place_of(number);
     set.rules[place]
@@ -53,7 +55,7 @@ pub fn rule_at(set: RuleSet, number: u8) -> Rule
 fn cost_at(set: RuleSet, number: u8) -> u8
     ensures { λ r. ⌜ r ≡ ruleAt set number .cost ⌝ }
 {
-    if 31 < number {
+    if MAX_RULES < number {
         return 0;
     }
     let rule = rule_at(set, number);

@@ -7,6 +7,7 @@ use Prim.Native.Nat.{ℕ, _≤_, _<_}
 use lib.Dec.{ltb, eqb}
 use lib.ListN.{take, drop, replicate}
 use Rattle.theory_spec.specs.Lists.{padded}
+use Rattle.model_spec.specs.Limits.{placeCount}
 use Rattle.model_spec.specs.Refusals.{Cause, firstRefusal}
 use Rattle.model_spec.specs.declared.RuleSet.{RuleSet}
 use Rattle.files_spec.specs.Reading.{reading}
@@ -29,8 +30,8 @@ macroSize = 34
 -- the macro that stands at the front of a buffer: the cost is in the bytes of entry 16, those behind the two vectors
 unfoldable pub macroOf : List ℕ → Macro
 macroOf buffer = record {
-  condition = take 16 buffer;
-  effect = take 16 (drop 16 buffer);
+  condition = take placeCount buffer;
+  effect = take placeCount (drop placeCount buffer);
   cost = entryAt buffer 16;
 }
 

@@ -1,16 +1,18 @@
 // What is judged of a query before any sequence is visited.
 use checker::check_table;
+use model_spec::MOVE_LIMIT;
 use model_spec::RuleSet;
 use search_spec::ANY_VALUE;
 ghost use mathlib.Core.Path.{_≡_};
 ghost use Prim.Native.Nat.{ℕ, _≤_};
+ghost use Rattle.model_spec.specs.Limits.{maxPositions};
 ghost use Rattle.model_spec.specs.Refusals.{firstRefusal};
 ghost use Rattle.search_spec.specs.Query.{asked, startFits, goalFits};
 ghost use Rattle.search_spec.specs.Searched.{queryCauses};
 
 // Whether a start has one byte for each position, each below its size.
 fn start_fits(set: RuleSet, start: &[u8]) -> bool
-    requires { ⌜ set .positions ≤ 16 ⌝ }
+    requires { ⌜ set .positions ≤ maxPositions ⌝ }
     ensures { λ r. ⌜ r ≡ startFits set (now (start .entry)) ⌝ }
 {
     let positions = set.positions as usize;
@@ -30,7 +32,7 @@ fn start_fits(set: RuleSet, start: &[u8]) -> bool
 
 // Whether a goal has one byte for each position, each below its size or 255.
 fn goal_fits(set: RuleSet, goal: &[u8]) -> bool
-    requires { ⌜ set .positions ≤ 16 ⌝ }
+    requires { ⌜ set .positions ≤ maxPositions ⌝ }
     ensures { λ r. ⌜ r ≡ goalFits set (now (goal .entry)) ⌝ }
 {
     let positions = set.positions as usize;
@@ -79,7 +81,7 @@ pub fn query_refusal(
     if !goal_fits(set, goal) {
         return 10;
     }
-    if 32 < max_moves {
+    if MOVE_LIMIT < max_moves {
         return 11;
     }
     if plan_size < max_moves {

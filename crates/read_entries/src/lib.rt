@@ -1,6 +1,8 @@
 // The entries of a rule's lines, each read at a place of the text and judged for its limit and its place.
 // A set has at most 16 positions: a variable above 16 is outside its limit, whatever number is given.
 use bounded::at_most;
+use model_spec::MAX_POSITIONS;
+use model_spec::PLACE_COUNT;
 use placement::condition_placed;
 use placement::effect_placed;
 use read_items::number_within;
@@ -8,6 +10,7 @@ use reader_laws::Found;
 ghost use mathlib.Core.Path.{_≡_};
 ghost use Prim.Native.Nat.{min};
 ghost use lib.ListN.{drop, set};
+ghost use Rattle.model_spec.specs.Limits.{maxPositions};
 ghost use Rattle.files_spec.specs.Reading.{variable, constant, entry};
 ghost use Rattle.reader_laws.specs.how.Found.{found};
 ghost use Rattle.reader_laws.specs.how.Parts.{conditionEntry, effectEntry};
@@ -15,10 +18,10 @@ ghost use Rattle.reader_laws.specs.how.Parts.{conditionEntry, effectEntry};
 // A variable: the number of one of the positions, after the letter.
 fn variable(text: &[u8], at: usize, positions: u8, ending: u8) -> Found
     ensures { λ r. ⌜
-        variable (min positions 16) ending (drop at (now (text .entry)))
+        variable (min positions maxPositions) ending (drop at (now (text .entry)))
         ≡ found (r .outcome) (r .value) (r .next) (now (text .entry)) ⌝ }
 {
-    let position = number_within(text, at, 1, at_most(positions, 16), ending);
+    let position = number_within(text, at, 1, at_most(positions, MAX_POSITIONS), ending);
     let outcome = position.outcome;
     let value = position.value;
     if outcome != 0 {
@@ -45,9 +48,16 @@ fn constant(text: &[u8], at: usize, size: u8, ending: u8) -> Found
 }
 
 // An entry at place i: `x` and a position number, or a constant. Beyond the sixteen places the size is 0.
-fn entry(text: &[u8], at: usize, positions: u8, sizes: &[u8; 16], i: usize, ending: u8) -> Found
+fn entry(
+    text: &[u8],
+    at: usize,
+    positions: u8,
+    sizes: &[u8; PLACE_COUNT],
+    i: usize,
+    ending: u8,
+) -> Found
     ensures { λ r. ⌜
-        entry (min positions 16) (now (sizes .entry)) i ending (drop at (now (text .entry)))
+        entry (min positions maxPositions) (now (sizes .entry)) i ending (drop at (now (text .entry)))
         ≡ found (r .outcome) (r .value) (r .next) (now (text .entry)) ⌝ }
 {
     let places: &[u8] = sizes;
@@ -56,18 +66,18 @@ fn entry(text: &[u8], at: usize, positions: u8, sizes: &[u8; 16], i: usize, endi
             return variable(text, at + 1, positions, ending);
         }
     }
-    if i < 16 {
+    if i < PLACE_COUNT {
         return constant(text, at, places[i], ending);
     }
     constant(text, at, 0, ending)
 }
 
 // The entries with another at place i, as they were where i is no place.
-fn with_entry(entries: [u8; 16], i: usize, value: u8) -> [u8; 16]
+fn with_entry(entries: [u8; PLACE_COUNT], i: usize, value: u8) -> [u8; PLACE_COUNT]
     ensures { λ r. ⌜ r ≡ set entries i value ⌝ }
 {
     let mut changed = entries;
-    if i < 16 {
+    if i < PLACE_COUNT {
         changed[i] = value;
     }
     changed
@@ -78,8 +88,8 @@ pub fn condition_item(
     text: &[u8],
     at: usize,
     positions: u8,
-    sizes: &[u8; 16],
-    before: [u8; 16],
+    sizes: &[u8; PLACE_COUNT],
+    before: [u8; PLACE_COUNT],
     i: usize,
     end: u8,
 ) -> Found
@@ -109,8 +119,8 @@ pub fn effect_item(
     text: &[u8],
     at: usize,
     positions: u8,
-    sizes: &[u8; 16],
-    condition: &[u8; 16],
+    sizes: &[u8; PLACE_COUNT],
+    condition: &[u8; PLACE_COUNT],
     i: usize,
     end: u8,
 ) -> Found

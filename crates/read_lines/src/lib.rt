@@ -1,5 +1,8 @@
 // Lines of a rule file, each read at a place of the text: a key, and one number or a list of items.
 use bounded::at_most;
+use model_spec::MAX_POSITIONS;
+use model_spec::MAX_SIZE;
+use model_spec::PLACE_COUNT;
 use read_entries::condition_item;
 use read_entries::effect_item;
 use read_items::number_within;
@@ -11,6 +14,7 @@ use separators::ending;
 ghost use mathlib.Core.Path.{_≡_};
 ghost use Prim.Native.Nat.{_≤_, _<_, min};
 ghost use lib.ListN.{take, drop};
+ghost use Rattle.model_spec.specs.Limits.{maxPositions, placeCount};
 ghost use Rattle.reader_laws.specs.how.Found.{found};
 ghost use Rattle.reader_laws.specs.how.Parts.{keyedNumber, keyedList, itemOf};
 
@@ -34,20 +38,20 @@ fn list_item(
     at: usize,
     line: Line,
     positions: u8,
-    sizes: &[u8; 16],
-    condition: &[u8; 16],
-    before: [u8; 16],
+    sizes: &[u8; PLACE_COUNT],
+    condition: &[u8; PLACE_COUNT],
+    before: [u8; PLACE_COUNT],
     i: usize,
     end: u8,
 ) -> Found
-    requires { ⌜ (positions ≤ 16) × (i < 16) ⌝ }
+    requires { ⌜ (positions ≤ maxPositions) × (i < placeCount) ⌝ }
     ensures { λ r. ⌜
         (let item = itemOf line positions (now (sizes .entry)) (now (condition .entry)) in
         item (take i before) end (drop at (now (text .entry)))
         ≡ found (r .outcome) (r .value) (r .next) (now (text .entry))) ⌝ }
 {
     match line {
-        Line::Sizes => number_within(text, at, 2, 16, end),
+        Line::Sizes => number_within(text, at, 2, MAX_SIZE, end),
         Line::Condition => condition_item(text, at, positions, sizes, before, i, end),
         Line::Effect => effect_item(text, at, positions, sizes, condition, i, end),
     }
@@ -60,20 +64,20 @@ pub fn list_line(
     key: &[u8],
     line: Line,
     positions: u8,
-    sizes: &[u8; 16],
-    condition: &[u8; 16],
+    sizes: &[u8; PLACE_COUNT],
+    condition: &[u8; PLACE_COUNT],
 ) -> FoundLine
     ensures { λ r. ⌜
-        (let count = min positions 16 in
+        (let count = min positions maxPositions in
         let item = itemOf line count (now (sizes .entry)) (now (condition .entry)) in
         keyedList (now (key .entry)) item count (drop at (now (text .entry)))
         ≡ found (r .outcome) (r .entries) (r .next) (now (text .entry))) ⌝ }
 {
-    let held = at_most(positions, 16);
+    let held = at_most(positions, MAX_POSITIONS);
     let count = held as usize;
     let start = word(text, at, key);
     let outcome = start.outcome;
-    let mut entries = [0u8; 16];
+    let mut entries = [0u8; PLACE_COUNT];
     let mut next = start.next;
     if outcome != 0 {
         return FoundLine {

@@ -1,4 +1,6 @@
 // How the reader goes about it: what its functions find at a place of the text, parts that they promise, and laws.
+use model_spec::PLACE_COUNT;
+use model_spec::RULE_PLACES;
 use model_spec::Rule;
 use model_spec::RuleSet;
 
@@ -29,7 +31,7 @@ pub struct Found {
 // The items of a line, 0 in the places beyond them.
 pub struct FoundLine {
     pub outcome: u8,
-    pub entries: [u8; 16],
+    pub entries: [u8; PLACE_COUNT],
     pub next: usize,
 }
 
@@ -43,7 +45,7 @@ pub struct FoundRule {
 // The lines of all rules, zero throughout beyond them.
 pub struct FoundRules {
     pub outcome: u8,
-    pub rules: [Rule; 31],
+    pub rules: [Rule; RULE_PLACES],
     pub next: usize,
 }
 

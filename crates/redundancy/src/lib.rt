@@ -1,5 +1,7 @@
 // Redundancy of a sequence with another, decided on the first one's vectors.
 use macros_spec::Vectors;
+use model_spec::MAX_RULES;
+use model_spec::PLACE_COUNT;
 use model_spec::RuleSet;
 use moves::cost_of;
 use moves::has_unknown_move;
@@ -10,6 +12,7 @@ use states::same_entries;
 ghost use mathlib.Core.Path.{_≡_};
 ghost use lib.Dec.{leb};
 ghost use Rattle.theory_spec.specs.Sequences.{Numbered};
+ghost use Rattle.model_spec.specs.Limits.{maxRules};
 ghost use Rattle.model_spec.specs.Rules.{runIn, sequenceCost};
 ghost use Rattle.macros_spec.specs.Composition.{linesOf};
 ghost use Rattle.macros_spec.specs.Redundancy.{endsIn, lastNumber, redundantByLines, TellsRedundancy};
@@ -18,10 +21,10 @@ ghost use Rattle.macros_spec.specs.Redundancy.{endsIn, lastNumber, redundantByL
 fn last_number(set: RuleSet) -> u8
     ensures { λ r. ⌜ r ≡ lastNumber set ⌝ }
 {
-    if set.count < 31 {
+    if set.count < MAX_RULES {
         return set.count;
     }
-    31
+    MAX_RULES
 }
 
 // Whether a sequence costs at most this.
@@ -32,8 +35,13 @@ fn costs_at_most(set: RuleSet, moves: &[u8], most: u16) -> bool
 }
 
 // Whether the rules of a sequence run in turn on a condition, as on a state of entries, and end in the effect.
-fn leads(set: RuleSet, moves: &[u8], condition: [u8; 16], effect: [u8; 16]) -> bool
-    requires { ⌜ Numbered 31 (now moves) ⌝ }
+fn leads(
+    set: RuleSet,
+    moves: &[u8],
+    condition: [u8; PLACE_COUNT],
+    effect: [u8; PLACE_COUNT],
+) -> bool
+    requires { ⌜ Numbered maxRules (now moves) ⌝ }
     ensures { λ r. ⌜ r ≡ endsIn (runIn set (now (moves .entry)) condition) effect ⌝ }
 {
     let mut entries = condition;

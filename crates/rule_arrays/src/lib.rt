@@ -1,16 +1,18 @@
 // The lines and costs of a set's rules as arrays, to be lent.
+use model_spec::PLACE_COUNT;
+use model_spec::RULE_PLACES;
 use model_spec::RuleSet;
 ghost use mathlib.Core.Path.{_≡_};
 ghost use mathlib.Core.List.{map};
 
 // The conditions of all rules, to be lent.
-pub fn conditions_of(set: RuleSet) -> [[u8; 16]; 31]
+pub fn conditions_of(set: RuleSet) -> [[u8; PLACE_COUNT]; RULE_PLACES]
     ensures { λ r. ⌜ r ≡ map (λ rule. rule .condition) (set .rules) ⌝ }
 {
-    let zeros = [0u8; 16];
-    let mut conditions = [zeros; 31];
+    let zeros = [0u8; PLACE_COUNT];
+    let mut conditions = [zeros; RULE_PLACES];
     let mut i: usize = 0;
-    while i < 31 {
+    while i < RULE_PLACES {
         let rule = set.rules[i];
         let condition = rule.condition;
         conditions[i] = condition;
@@ -20,13 +22,13 @@ pub fn conditions_of(set: RuleSet) -> [[u8; 16]; 31]
 }
 
 // The effects of all rules.
-pub fn effects_of(set: RuleSet) -> [[u8; 16]; 31]
+pub fn effects_of(set: RuleSet) -> [[u8; PLACE_COUNT]; RULE_PLACES]
     ensures { λ r. ⌜ r ≡ map (λ rule. rule .effect) (set .rules) ⌝ }
 {
-    let zeros = [0u8; 16];
-    let mut effects = [zeros; 31];
+    let zeros = [0u8; PLACE_COUNT];
+    let mut effects = [zeros; RULE_PLACES];
     let mut j: usize = 0;
-    while j < 31 {
+    while j < RULE_PLACES {
         let rule = set.rules[j];
         let effect = rule.effect;
         effects[j] = effect;
@@ -36,12 +38,12 @@ pub fn effects_of(set: RuleSet) -> [[u8; 16]; 31]
 }
 
 // The costs of all rules.
-pub fn costs_of(set: RuleSet) -> [u8; 31]
+pub fn costs_of(set: RuleSet) -> [u8; RULE_PLACES]
     ensures { λ r. ⌜ r ≡ map (λ rule. rule .cost) (set .rules) ⌝ }
 {
-    let mut costs = [0u8; 31];
+    let mut costs = [0u8; RULE_PLACES];
     let mut k: usize = 0;
-    while k < 31 {
+    while k < RULE_PLACES {
         let rule = set.rules[k];
         costs[k] = rule.cost;
         k += 1;

@@ -1,4 +1,5 @@
 // Whether a rule of a set is valid: every entry of its two lines within its limit and in place.
+use model_spec::PLACE_COUNT;
 use model_spec::Rule;
 use placement::condition_placed;
 use placement::effect_placed;
@@ -7,12 +8,12 @@ ghost use mathlib.Core.Path.{_≡_};
 ghost use Rattle.model_spec.specs.Validity.{conditionValid, effectValid, ruleValid};
 
 // Whether every entry of a condition is valid.
-fn condition_valid(positions: u8, sizes: &[u8; 16], condition: &[u8; 16]) -> bool
+fn condition_valid(positions: u8, sizes: &[u8; PLACE_COUNT], condition: &[u8; PLACE_COUNT]) -> bool
     ensures { λ r. ⌜ r ≡ conditionValid positions (now (sizes .entry)) (now (condition .entry)) ⌝ }
 {
     let entries: &[u8] = condition;
     let mut i: usize = 0;
-    while i < 16 {
+    while i < PLACE_COUNT {
         let entry = entries[i];
         if !entry_limited(positions, sizes, i, entry) {
             return false;
@@ -26,13 +27,18 @@ fn condition_valid(positions: u8, sizes: &[u8; 16], condition: &[u8; 16]) -> boo
 }
 
 // Whether every entry of an effect is valid, after this condition.
-fn effect_valid(positions: u8, sizes: &[u8; 16], condition: &[u8; 16], effect: &[u8; 16]) -> bool
+fn effect_valid(
+    positions: u8,
+    sizes: &[u8; PLACE_COUNT],
+    condition: &[u8; PLACE_COUNT],
+    effect: &[u8; PLACE_COUNT],
+) -> bool
     ensures { λ r. ⌜
         r ≡ effectValid positions (now (sizes .entry)) (now (condition .entry)) (now (effect .entry)) ⌝ }
 {
     let entries: &[u8] = effect;
     let mut i: usize = 0;
-    while i < 16 {
+    while i < PLACE_COUNT {
         let entry = entries[i];
         if !entry_limited(positions, sizes, i, entry) {
             return false;
@@ -46,7 +52,7 @@ fn effect_valid(positions: u8, sizes: &[u8; 16], condition: &[u8; 16], effect: &
 }
 
 // Whether both lines of a rule are valid. Every cost is: a byte is at most 255.
-pub fn rule_valid(positions: u8, sizes: &[u8; 16], rule: Rule) -> bool
+pub fn rule_valid(positions: u8, sizes: &[u8; PLACE_COUNT], rule: Rule) -> bool
     ensures { λ r. ⌜ r ≡ ruleValid positions (now (sizes .entry)) rule ⌝ }
 {
     let condition = rule.condition;

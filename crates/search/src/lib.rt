@@ -1,5 +1,6 @@
 // The search (document 01: the walk): the cheapest plan of a query, or why there is none.
 use buffers::fill_from;
+use model_spec::MOVE_LIMIT;
 use model_spec::RuleSet;
 use search_spec::Answer;
 use search_spec::NO_MOVE;
@@ -8,6 +9,7 @@ ghost use mathlib.Core.Path.{_≡_};
 ghost use mathlib.Core.List.{_++_};
 ghost use Prim.Native.Nat.{_≤_};
 ghost use lib.ListN.{length, take, drop};
+ghost use Rattle.model_spec.specs.Limits.{moveLimit};
 ghost use Rattle.search_spec.specs.Query.{asked};
 ghost use Rattle.search_spec.specs.Searched.{Searched, searched, SearchMeaning};
 ghost use Rattle.search_spec.specs.PlanPart.{PartMeaning};
@@ -25,8 +27,8 @@ fn without_plan(outcome: u8, steps: u32) -> Answer
 }
 
 // Puts the moves of a plan at the front of the buffer.
-fn put_moves(moves: &[u8; 32], many: u8, plan: &mut [u8])
-    requires { ⌜ (many ≤ 32) × (many ≤ length (now plan)) ⌝ }
+fn put_moves(moves: &[u8; MOVE_LIMIT], many: u8, plan: &mut [u8])
+    requires { ⌜ (many ≤ moveLimit) × (many ≤ length (now plan)) ⌝ }
     ensures { λ _. ⌜ now (plan .exit) ≡ take many (now (moves .entry)) ++ drop many (now (plan .entry)) ⌝ }
 {
     let entries: &[u8] = moves;

@@ -1,12 +1,13 @@
 // How the search goes about it: the types that it passes along, definitions that its functions promise, and laws. No
 // promise of a call needs these, only those of functions below the calls.
+use model_spec::MOVE_LIMIT;
 
 // The best plan met so far. Its moves are rule numbers, with 255 in every other byte.
 pub struct Best {
     pub found: bool,
     pub cost: u16,
     pub length: u8,
-    pub moves: [u8; 32],
+    pub moves: [u8; MOVE_LIMIT],
 }
 
 // How far the search has come: the sequences visited, at most the step limit; whether there are more than the limit;

@@ -1,20 +1,23 @@
 // What visiting a sequence makes of the search's progress: one step more, and the best plan so far.
 use bounded::smaller;
+use model_spec::MOVE_LIMIT;
+use model_spec::PLACE_COUNT;
 use search_laws::Best;
 use search_laws::Progress;
 use search_spec::ANY_VALUE;
 ghost use mathlib.Core.Path.{_≡_};
 ghost use Prim.Native.Nat.{min};
 ghost use lib.ListN.{take};
+ghost use Rattle.model_spec.specs.Limits.{placeCount};
 ghost use Rattle.search_spec.specs.Query.{meetsGoal};
 ghost use Rattle.search_laws.specs.how.Visits.{replaces, notedMoves};
 
 // Whether a state meets the first sixteen bytes of the goal: 255 in the goal asks for nothing.
-fn meets_goal(goal: &[u8], state: &[u8; 16]) -> bool
-    ensures { λ r. ⌜ r ≡ meetsGoal (take 16 (now (goal .entry))) (now (state .entry)) ⌝ }
+fn meets_goal(goal: &[u8], state: &[u8; PLACE_COUNT]) -> bool
+    ensures { λ r. ⌜ r ≡ meetsGoal (take placeCount (now (goal .entry))) (now (state .entry)) ⌝ }
 {
     let held: &[u8] = state;
-    let end = smaller(goal.len(), 16);
+    let end = smaller(goal.len(), PLACE_COUNT);
     let mut i: usize = 0;
     while i < end {
         if goal[i] != ANY_VALUE {
@@ -56,15 +59,15 @@ fn lower(a: u16, b: u16) -> u16
 pub fn noted(
     goal: &[u8],
     step_limit: u32,
-    state: &[u8; 16],
-    plan: &[u8; 32],
+    state: &[u8; PLACE_COUNT],
+    plan: &[u8; MOVE_LIMIT],
     depth: u8,
     cost: u16,
     progress: Progress,
 ) -> Progress
     ensures { λ r. ⌜
         r
-        ≡ notedMoves (take 16 (now (goal .entry))) «step_limit» cost depth
+        ≡ notedMoves (take placeCount (now (goal .entry))) «step_limit» cost depth
         (now (plan .entry)) (now (state .entry)) progress ⌝ }
 {
     let best = progress.best;

@@ -9,6 +9,7 @@ use lib.ListN.{length, getD}
 use Rattle.theory_spec.specs.Lists.{every, numbersFrom, padded}
 use Rattle.theory_spec.specs.Sequences.{Sequence, Numbered}
 use Rattle.theory_spec.specs.Plans.{candidates, visited}
+use Rattle.model_spec.specs.Limits.{placeCount}
 use Rattle.model_spec.specs.States.{State}
 use Rattle.model_spec.specs.Rules.{stepOf, ruleCost, runIn, sequenceCost}
 use Rattle.model_spec.specs.declared.RuleSet.{RuleSet}
@@ -57,7 +58,7 @@ goalFits set goal =
 
 -- the state of a start: 0 beyond the positions
 abbrev pub startState : Query → State
-startState query = padded 16 0 (query .start)
+startState query = padded placeCount 0 (query .start)
 
 -- a state meets the goal: it holds the goal's byte at every position where that byte is not 255
 unfoldable pub meetsGoal : List ℕ → State → Bool

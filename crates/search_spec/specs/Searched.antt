@@ -11,6 +11,7 @@ use lib.ListN.{length, replicate}
 use Rattle.theory_spec.specs.Lists.{_∈_, any, isSome, padded, Pairwise}
 use Rattle.theory_spec.specs.Sequences.{Sequence}
 use Rattle.theory_spec.specs.Plans.{cheapest, Preferred}
+use Rattle.model_spec.specs.Limits.{moveLimit}
 use Rattle.model_spec.specs.Refusals.{Cause, firstRefusal, NoneHolds}
 use Rattle.model_spec.specs.Rules.{ruleCost, sequenceCost}
 use Rattle.model_spec.specs.Validity.{Valid}
@@ -28,7 +29,7 @@ requestCauses set query room =
     tableCauses set (query .reach) (length (query .table))
     ++ ((9, not (startFits set (query .start)))
     ∷ (10, not (goalFits set (query .goal)))
-    ∷ (11, ltb 32 (query .maxMoves))
+    ∷ (11, ltb moveLimit (query .maxMoves))
     ∷ (12, ltb room (query .maxMoves))
     ∷ [])
 
@@ -128,7 +129,7 @@ abbrev pub GoalPassed : RuleSet → Query → Type 0
 GoalPassed set query = StartPassed set query × GoalFits set (query .goal)
 
 abbrev pub MovesPassed : RuleSet → Query → Type 0
-MovesPassed set query = GoalPassed set query × (query .maxMoves ≤ 32)
+MovesPassed set query = GoalPassed set query × (query .maxMoves ≤ moveLimit)
 
 abbrev pub RoomPassed : RuleSet → Query → ℕ → Type 0
 RoomPassed set query room = MovesPassed set query × (query .maxMoves ≤ room)
@@ -151,7 +152,7 @@ pub record SearchMeaning (set : RuleSet) (query : Query) (room : ℕ) (found : S
   pub badStart : (found .answer .outcome ≡ 9)
       ↔ (Ready set (query .reach) (length (query .table)) × (StartFits set (query .start) → ⊥))
   pub badGoal : (found .answer .outcome ≡ 10) ↔ (StartPassed set query × (GoalFits set (query .goal) → ⊥))
-  pub manyMoves : (found .answer .outcome ≡ 11) ↔ (GoalPassed set query × (32 < query .maxMoves))
+  pub manyMoves : (found .answer .outcome ≡ 11) ↔ (GoalPassed set query × (moveLimit < query .maxMoves))
   pub smallBuffer : (found .answer .outcome ≡ 12) ↔ (MovesPassed set query × (room < query .maxMoves))
   pub notAccepted : (found .answer .outcome ≡ 14)
       ↔ (RoomPassed set query room × (Accepted set (query .reach) (query .table) → ⊥))

@@ -1,6 +1,7 @@
 // The sequences of at most three rules by their indices, and what the tables need to know of each.
 use composition::empty;
 use composition::extended;
+use model_spec::MAX_RULES;
 use model_spec::RuleSet;
 use tables_laws::Profile;
 use tables_laws::ShortSequence;
@@ -8,19 +9,20 @@ ghost use mathlib.Core.Path.{_≡_};
 ghost use Prim.Native.Nat.{min, max, _≤_};
 ghost use lib.ListN.{length, drop};
 ghost use Rattle.theory_spec.specs.Sequences.{Numbered};
+ghost use Rattle.model_spec.specs.Limits.{maxRules};
 ghost use Rattle.model_spec.specs.Rules.{sequenceCost};
 ghost use Rattle.macros_spec.specs.Composition.{composed, asVectors};
 ghost use Rattle.tables_laws.specs.how.ShortSequences.{shortSequence};
 
 // A number of rules as a valid set may have it, from 1 to 31: the nearest one.
 fn rule_count(count: u8) -> u8
-    ensures { λ r. ⌜ r ≡ max 1 (min count 31) ⌝ }
+    ensures { λ r. ⌜ r ≡ max 1 (min count maxRules) ⌝ }
 {
     if count < 1 {
         return 1;
     }
-    if 31 < count {
-        return 31;
+    if MAX_RULES < count {
+        return MAX_RULES;
     }
     count
 }
@@ -51,7 +53,7 @@ pub fn sequence_at(count: u8, index: usize) -> ShortSequence
 // The vectors of a sequence, and its cost.
 fn profile_of(set: RuleSet, moves: &[u8]) -> Profile
     requires { ⌜
-        Numbered 31 (now moves)
+        Numbered maxRules (now moves)
         × (length (now moves) ≤ 3) ⌝ }
     ensures { λ r. ⌜
         (let sequence = now (moves .entry) in

@@ -1,6 +1,7 @@
 // The macro of a sequence of a rule text's set, as bytes. 1 to 4 of the text come before all else.
 use buffers::fill_from;
 use macros_spec::Macro;
+use model_spec::PLACE_COUNT;
 use reader::read;
 ghost use mathlib.Core.Path.{_≡_};
 ghost use mathlib.Core.Bool.{not};
@@ -12,8 +13,13 @@ ghost use Rattle.theory_spec.specs.Lists.{padded};
 ghost use Rattle.model_spec.specs.Refusals.{firstRefusal};
 ghost use Rattle.planner_spec.specs.TextMacro.{macroBytes, macroSize, textMacro, macroBuffer, TextMacroMeaning};
 
+// The two bytes of a macro's cost, behind the two vectors.
+const COST_LOW: usize = 2 * PLACE_COUNT;
+
+const COST_HIGH: usize = COST_LOW + 1;
+
 // How many bytes a macro has.
-const MACRO_SIZE: usize = 34;
+const MACRO_SIZE: usize = COST_HIGH + 1;
 
 // Byte i of a macro: condition, effect, and the cost, low byte first; 0 beyond them.
 fn macro_byte(m: Macro, i: usize) -> u8
@@ -21,16 +27,16 @@ fn macro_byte(m: Macro, i: usize) -> u8
 {
     let condition = m.condition;
     let effect = m.effect;
-    if i < 16 {
+    if i < PLACE_COUNT {
         return condition[i];
     }
-    if i < 32 {
-        return effect[i - 16];
+    if i < COST_LOW {
+        return effect[i - PLACE_COUNT];
     }
-    if i == 32 {
+    if i == COST_LOW {
         return (m.cost % 256) as u8;
     }
-    if i == 33 {
+    if i == COST_HIGH {
         return (m.cost / 256) as u8;
     }
     0

@@ -1,5 +1,10 @@
 // Whether a rule set is valid.
 use duplicates::has_duplicates;
+use model_spec::MAX_POSITIONS;
+use model_spec::MAX_RULES;
+use model_spec::MAX_SIZE;
+use model_spec::PLACE_COUNT;
+use model_spec::RULE_PLACES;
 use model_spec::Rule;
 use model_spec::RuleSet;
 use rule_validity::rule_valid;
@@ -9,6 +14,7 @@ ghost use mathlib.Core.Logic.{_↔_};
 ghost use mathlib.Core.Path.{_≡_};
 ghost use Prim.Native.Nat.{_<_};
 ghost use Rattle.theory_spec.specs.Lists.{within};
+ghost use Rattle.model_spec.specs.Limits.{placeCount, maxRules};
 ghost use Rattle.model_spec.specs.Validity.{sizeValid, sizesValid, ruleBlank, ruleValidAt, rulesValid};
 ghost use Rattle.model_spec.specs.Validity.{wellFormed, valid, Valid};
 
@@ -23,19 +29,19 @@ fn in_range(least: u8, most: u8, number: u8) -> bool
 }
 
 // Whether the size at place i is 2 to 16 for a position, and 0 beyond.
-fn size_valid(positions: u8, sizes: &[u8; 16], i: usize) -> bool
-    requires { ⌜ i < 16 ⌝ }
+fn size_valid(positions: u8, sizes: &[u8; PLACE_COUNT], i: usize) -> bool
+    requires { ⌜ i < placeCount ⌝ }
     ensures { λ r. ⌜ r ≡ sizeValid positions (now (sizes .entry)) i ⌝ }
 {
     let size = sizes[i];
     if i < positions as usize {
-        return in_range(2, 16, size);
+        return in_range(2, MAX_SIZE, size);
     }
     size == 0
 }
 
 // Whether every size is valid.
-fn sizes_valid(positions: u8, sizes: &[u8; 16]) -> bool
+fn sizes_valid(positions: u8, sizes: &[u8; PLACE_COUNT]) -> bool
     ensures { λ r. ⌜ r ≡ sizesValid positions (now (sizes .entry)) ⌝ }
 {
     let all: &[u8] = sizes;
@@ -56,7 +62,7 @@ fn rule_blank(rule: Rule) -> bool
     if rule.cost != 0 {
         return false;
     }
-    let zeros = [0u8; 16];
+    let zeros = [0u8; PLACE_COUNT];
     let condition = rule.condition;
     if !same_entries(&condition, &zeros) {
         return false;
@@ -67,7 +73,7 @@ fn rule_blank(rule: Rule) -> bool
 
 // Whether the rule at place k is valid, where it is used, or zero throughout.
 fn rule_valid_at(set: RuleSet, k: usize) -> bool
-    requires { ⌜ k < 31 ⌝ }
+    requires { ⌜ k < maxRules ⌝ }
     ensures { λ r. ⌜ r ≡ ruleValidAt set k ⌝ }
 {
     let rule = set.rules[k];
@@ -83,7 +89,7 @@ fn rules_valid(set: RuleSet) -> bool
     ensures { λ r. ⌜ r ≡ rulesValid set ⌝ }
 {
     let mut k: usize = 0;
-    while k < 31 {
+    while k < RULE_PLACES {
         if !rule_valid_at(set, k) {
             return false;
         }
@@ -96,14 +102,14 @@ fn rules_valid(set: RuleSet) -> bool
 fn well_formed(set: RuleSet) -> bool
     ensures { λ r. ⌜ r ≡ wellFormed set ⌝ }
 {
-    if !in_range(1, 16, set.positions) {
+    if !in_range(1, MAX_POSITIONS, set.positions) {
         return false;
     }
     let sizes = set.sizes;
     if !sizes_valid(set.positions, &sizes) {
         return false;
     }
-    if !in_range(1, 31, set.count) {
+    if !in_range(1, MAX_RULES, set.count) {
         return false;
     }
     rules_valid(set)

@@ -3,6 +3,9 @@
 // through by value.
 use lookup::first_place;
 use lookup::lookup_of;
+use model_spec::MOVE_LIMIT;
+use model_spec::PLACE_COUNT;
+use model_spec::RULE_PLACES;
 use model_spec::RuleSet;
 use queries::query_refusal;
 use rule_arrays::conditions_of;
@@ -28,14 +31,14 @@ const NO_FLOOR: u16 = 65535;
 // Visits a sequence and all that extends it by at most `left` moves: the first `depth` moves of the plan, which have
 // led to the state at that cost. Beyond the limit it extends no sequence.
 fn visit_from(
-    conditions: &[[u8; 16]; 31],
-    effects: &[[u8; 16]; 31],
-    costs: &[u8; 31],
+    conditions: &[[u8; PLACE_COUNT]; RULE_PLACES],
+    effects: &[[u8; PLACE_COUNT]; RULE_PLACES],
+    costs: &[u8; RULE_PLACES],
     blocked: &[u8; 30784],
     goal: &[u8],
     limits: Limits,
-    state: &[u8; 16],
-    plan: &[u8; 32],
+    state: &[u8; PLACE_COUNT],
+    plan: &[u8; MOVE_LIMIT],
     depth: u8,
     cost: u16,
     left: usize,
@@ -73,7 +76,7 @@ fn visit_from(
             &conditions[k],
             state,
         ) {
-            let mut next = [0u8; 16];
+            let mut next = [0u8; PLACE_COUNT];
             put_after(limits.positions, &effects[k], state, &mut next);
             longer[end] = k as u8 + 1;
             carried = visit_from(
@@ -114,7 +117,7 @@ pub fn explored(
         r ≡ exploration set query «plan_size») ⌝ }
 {
     let refusal = query_refusal(set, reach, table, start, goal, max_moves, plan_size);
-    let moves = [NO_MOVE; 32];
+    let moves = [NO_MOVE; MOVE_LIMIT];
     let best = Best {
         found: false,
         cost: 0,

@@ -1,5 +1,7 @@
 // The rules of a witness: whether one runs on entries, as on a state, for what is left to spend, and the last one,
 // which has to lead to the target.
+use model_spec::MAX_RULES;
+use model_spec::PLACE_COUNT;
 use model_spec::Rule;
 use model_spec::RuleSet;
 use states::runs;
@@ -23,7 +25,7 @@ pub fn index_behind(index: u16, count: u8, number: u8) -> usize
 }
 
 // Whether a rule runs on the entries, for at most `left`.
-pub fn goes_on(rule: Rule, entries: &[u8; 16], left: u16) -> bool
+pub fn goes_on(rule: Rule, entries: &[u8; PLACE_COUNT], left: u16) -> bool
     ensures { λ r. ⌜ r ≡ (leb (rule .cost) left && applicable (rule .condition) (now (entries .entry))) ⌝ }
 {
     let cost = rule.cost as u16;
@@ -35,13 +37,17 @@ pub fn goes_on(rule: Rule, entries: &[u8; 16], left: u16) -> bool
 }
 
 // Whether an effect leads from these entries to the target. It ends at the first place that differs.
-fn leads_to(effect: &[u8; 16], entries: &[u8; 16], target: &[u8; 16]) -> bool
+fn leads_to(
+    effect: &[u8; PLACE_COUNT],
+    entries: &[u8; PLACE_COUNT],
+    target: &[u8; PLACE_COUNT],
+) -> bool
     ensures { λ r. ⌜ r ≡ same (successor (now (effect .entry)) (now (entries .entry))) (now (target .entry)) ⌝ }
 {
     let each: &[u8] = effect;
     let asked: &[u8] = target;
     let mut i: usize = 0;
-    while i < 16 {
+    while i < PLACE_COUNT {
         if value(each[i], entries) != asked[i] {
             return false;
         }
@@ -51,7 +57,7 @@ fn leads_to(effect: &[u8; 16], entries: &[u8; 16], target: &[u8; 16]) -> bool
 }
 
 // Whether a rule runs on the entries, for at most `left`, and leads to the target.
-fn finishes(rule: Rule, entries: &[u8; 16], left: u16, target: &[u8; 16]) -> bool
+fn finishes(rule: Rule, entries: &[u8; PLACE_COUNT], left: u16, target: &[u8; PLACE_COUNT]) -> bool
     ensures { λ r. ⌜ r ≡ (leb (rule .cost) left
         && (applicable (rule .condition) (now (entries .entry))
         && same (successor (rule .effect) (now (entries .entry))) (now (target .entry)))) ⌝ }
@@ -69,15 +75,15 @@ fn finishes(rule: Rule, entries: &[u8; 16], left: u16, target: &[u8; 16]) -> boo
 pub fn with_one_more(
     set: RuleSet,
     index: u16,
-    entries: &[u8; 16],
+    entries: &[u8; PLACE_COUNT],
     left: u16,
-    target: &[u8; 16],
+    target: &[u8; PLACE_COUNT],
 ) -> usize
     ensures { λ r. ⌜
         (let lines = some (record { condition = now (entries .entry); effect = now (target .entry) }) in
         r ≡ firstWitness set index lines left (level (set .count) 1)) ⌝ }
 {
-    if 31 < set.count {
+    if MAX_RULES < set.count {
         return KEPT;
     }
     let mut k: u8 = 0;

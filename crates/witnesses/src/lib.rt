@@ -2,6 +2,8 @@
 // of entries, by length and rule number, and each is left as soon as a rule does not run there or the cost passes the
 // sequence's own.
 use macros_spec::Vectors;
+use model_spec::MAX_RULES;
+use model_spec::PLACE_COUNT;
 use model_spec::RuleSet;
 use states::after;
 use states::same_entries;
@@ -13,6 +15,7 @@ ghost use mathlib.Core.Path.{_≡_};
 ghost use mathlib.Core.Option.{some};
 ghost use Prim.Native.Nat.{_-_, _≤_, _<_};
 ghost use Rattle.theory_spec.specs.Sequences.{level, sequences};
+ghost use Rattle.model_spec.specs.Limits.{maxRules};
 ghost use Rattle.macros_spec.specs.Composition.{linesOf};
 ghost use Rattle.tables_spec.specs.Table.{sequenceCount};
 ghost use Rattle.tables_laws.specs.how.Witnesses.{firstBehind, serves, firstWitness};
@@ -23,14 +26,14 @@ fn with_more(
     set: RuleSet,
     more: usize,
     index: u16,
-    entries: &[u8; 16],
+    entries: &[u8; PLACE_COUNT],
     left: u16,
-    target: &[u8; 16],
+    target: &[u8; PLACE_COUNT],
 ) -> usize
     requires { ⌜
         (1 ≤ more)
         × (more ≤ 3)
-        × (set .count ≤ 31)
+        × (set .count ≤ maxRules)
         × (index < sequenceCount (set .count) (3 - more)) ⌝ }
     ensures { λ r. ⌜
         (let lines = some (record { condition = now (entries .entry); effect = now (target .entry) }) in
@@ -62,7 +65,7 @@ fn with_more(
 pub fn smallest_witness(set: RuleSet, sequence: Vectors, cost: u16) -> usize
     ensures { λ r. ⌜ r ≡ firstWitness set 0 (linesOf sequence) cost (sequences (set .count) 3) ⌝ }
 {
-    if 31 < set.count {
+    if MAX_RULES < set.count {
         return KEPT;
     }
     if !sequence.admitted {

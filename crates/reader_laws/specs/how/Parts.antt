@@ -4,6 +4,7 @@ use mathlib.Core.List.{List, []}
 use Prim.Native.Nat.{ℕ, min}
 use lib.ListN.{set}
 use Rattle.theory_spec.specs.Lists.{padded}
+use Rattle.model_spec.specs.Limits.{maxPositions, placeCount}
 use Rattle.model_spec.specs.Validity.{conditionPlaced, effectPlaced}
 use Rattle.files_spec.specs.Text.{lineFeed}
 use Rattle.files_spec.specs.Reading.{Parsed, parsed, andRead, refusedUnless, literal, numberWithin, entry}
@@ -19,7 +20,7 @@ keyedNumber key lo hi text = andRead (literal key text) (λ _ rest. numberWithin
 unfoldable pub keyedList : List ℕ → Item → ℕ → List ℕ → Parsed (List ℕ)
 keyedList key item n text =
     andRead (literal key text) (λ _ rest.
-    andRead (itemsAfter item n [] rest) (λ items rest. parsed (padded 16 0 items) rest))
+    andRead (itemsAfter item n [] rest) (λ items rest. parsed (padded placeCount 0 items) rest))
 
 -- the items of a line that lists them, a `then` line by its condition
 unfoldable pub itemOf : Line → ℕ → List ℕ → List ℕ → Item
@@ -31,9 +32,9 @@ itemOf Effect positions sizes condition = effectItem positions sizes condition
 unfoldable pub conditionEntry : ℕ → List ℕ → List ℕ → ℕ → ℕ → List ℕ → Parsed ℕ
 conditionEntry positions sizes before i ending text =
     refusedUnless 3 (λ e. conditionPlaced positions sizes (set before i e) i e)
-    (entry (min positions 16) sizes i ending text)
+    (entry (min positions maxPositions) sizes i ending text)
 
 -- an entry of a `then` line at place i, judged for its place by the `if` line
 unfoldable pub effectEntry : ℕ → List ℕ → List ℕ → ℕ → ℕ → List ℕ → Parsed ℕ
 effectEntry positions sizes condition i ending text =
-    refusedUnless 3 (effectPlaced positions sizes condition i) (entry (min positions 16) sizes i ending text)
+    refusedUnless 3 (effectPlaced positions sizes condition i) (entry (min positions maxPositions) sizes i ending text)

@@ -13,6 +13,7 @@ use Rattle.theory_spec.specs.Sequences.{Sequence, costOf, Numbered}
 use Rattle.theory_spec.specs.how.Indices.{indexOf}
 use Rattle.theory_spec.specs.Plans.{reaches}
 use Rattle.theory_spec.specs.how.Recursion.{last, exploreWith, best, leastCost}
+use Rattle.model_spec.specs.Limits.{maxPositions, placeCount, maxRules, moveLimit}
 use Rattle.model_spec.specs.States.{State, valuesOf, applicable, successor}
 use Rattle.model_spec.specs.Rules.{stepOf, ruleCost, sequenceCost}
 use Rattle.model_spec.specs.Refusals.{firstRefusal}
@@ -63,10 +64,10 @@ replaces former cost n =
 
 -- a sequence, at its cost, as the best plan; and no plan
 unfoldable pub bestOf : ℕ → Sequence → Best
-bestOf cost q = record { found = true; cost = cost; length = length q; moves = padded 32 noMove q }
+bestOf cost q = record { found = true; cost = cost; length = length q; moves = padded moveLimit noMove q }
 
 unfoldable pub noBest : Best
-noBest = record { found = false; cost = 0; length = 0; moves = replicate 32 noMove }
+noBest = record { found = false; cost = 0; length = 0; moves = replicate moveLimit noMove }
 
 -- the best plan after one whose n moves stand in an array, which costs so much and has led to the state s
 unfoldable pub bestAt : List ℕ → ℕ → ℕ → List ℕ → State → Best → Best
@@ -84,7 +85,7 @@ notedMoves goal limit cost n moves s p =
 
 -- the same for a sequence q, whose moves stand in front of a blank rest
 unfoldable pub noted : List ℕ → ℕ → ℕ → Sequence → State → Progress → Progress
-noted goal limit cost q = notedMoves goal limit cost (length q) (padded 32 noMove q)
+noted goal limit cost q = notedMoves goal limit cost (length q) (padded moveLimit noMove q)
 
 -- the progress before any sequence is visited
 unfoldable pub noProgress : Progress
@@ -105,22 +106,22 @@ ZerosFrom n l = (i : ℕ) → n ≤ i → getD l i 0 ≡ 0
 
 -- sixteen entries, or a state, with only zeros from a place on
 abbrev pub EndsAt : ℕ → List ℕ → Type 0
-EndsAt n l = (length l ≡ 16) × ZerosFrom n l
+EndsAt n l = (length l ≡ placeCount) × ZerosFrom n l
 
 -- what stays the same all through: numbers within their limits, and rules whose lines are zero beyond the positions
 pub record Lent (conditions effects : List (List ℕ)) (goal : List ℕ) (limits : Limits) : Type 0 where
-  pub positionLimit : limits .positions ≤ 16
-  pub countLimits : (1 ≤ limits .count) × (limits .count ≤ 31)
+  pub positionLimit : limits .positions ≤ maxPositions
+  pub countLimits : (1 ≤ limits .count) × (limits .count ≤ maxRules)
   pub reachLimits : (1 ≤ limits .reach) × (limits .reach ≤ 3)
-  pub goalLimit : length goal ≤ 16
+  pub goalLimit : length goal ≤ maxPositions
   pub conditionEnds : (k : ℕ) → k < limits .count → EndsAt (limits .positions) (getD conditions k [])
   pub effectEnds : (k : ℕ) → k < limits .count → EndsAt (limits .positions) (getD effects k [])
 
 -- the first n moves of the plan are the sequence so far: rules of the set, at that cost, with at most `left` moves to
 -- come; the rest of the plan is blank, and the state ends in zeros
 pub record Reached (costs : List ℕ) (limits : Limits) (state plan : List ℕ) (n cost left : ℕ) : Type 0 where
-  pub room : n + left ≤ 32
-  pub rest : plan ≡ padded 32 noMove (take n plan)
+  pub room : n + left ≤ moveLimit
+  pub rest : plan ≡ padded moveLimit noMove (take n plan)
   pub rules : Numbered (limits .count) (take n plan)
   pub total : cost ≡ costOf (lentCost costs) (take n plan)
   pub stateEnd : EndsAt (limits .positions) state

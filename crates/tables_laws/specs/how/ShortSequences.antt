@@ -4,7 +4,8 @@
 use Prim.Native.Nat.{ℕ, min, max}
 use Rattle.theory_spec.specs.Sequences.{Sequence}
 use Rattle.theory_spec.specs.how.Indices.{sequenceOf}
+use Rattle.model_spec.specs.Limits.{maxRules}
 
 -- of as many rules as a valid set may have, from 1 to 31
 unfoldable pub shortSequence : ℕ → ℕ → Sequence
-shortSequence m i = sequenceOf (max 1 (min m 31)) 3 i
+shortSequence m i = sequenceOf (max 1 (min m maxRules)) 3 i

@@ -7,6 +7,7 @@ use Prim.Native.Nat.{ℕ}
 use lib.Dec.{leb}
 use Rattle.theory_spec.specs.Sequences.{Sequence}
 use Rattle.theory_spec.specs.how.Indices.{indexFrom}
+use Rattle.model_spec.specs.Limits.{maxRules}
 use Rattle.model_spec.specs.Rules.{sequenceCost}
 use Rattle.model_spec.specs.declared.RuleSet.{RuleSet}
 use Rattle.macros_spec.specs.Composition.{Lines}
@@ -27,4 +28,5 @@ serves set b cost a = leb (sequenceCost set a) cost && covers set a b
 -- the first witness of a sequence with these vectors and this cost, among sequences behind one of index i, by its
 -- index; 65535 if there is none. A set of more than 31 rules is not searched
 unfoldable pub firstWitness : RuleSet → ℕ → Option Lines → ℕ → List Sequence → ℕ
-firstWitness set i b cost among = cond (leb (set .count) 31) (firstBehind (set .count) i (serves set b cost) among) kept
+firstWitness set i b cost among =
+    cond (leb (set .count) maxRules) (firstBehind (set .count) i (serves set b cost) among) kept
