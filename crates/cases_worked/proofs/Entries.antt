@@ -1,4 +1,5 @@
--- Entries that take a rule text, by evaluation: a macro's bytes with room to spare, with just enough and with too little,
+-- Entries that take a rule text, by evaluation: a macro's bytes with room to spare, with just enough and with too
+-- little,
 -- and that every other refusal comes before the room's.
 use Prim.Native.Nat.{ℕ}
 use Prim.Native.String.{String}
@@ -11,10 +12,12 @@ use Rattle.model_spec.specs.Validity.{entryLimited, conditionPlaced, effectPlac
 use Rattle.model_spec.specs.Validity.{sizeValid, sizesValid, ruleValid, ruleBlank, ruleValidAt, rulesValid}
 use Rattle.model_spec.specs.Validity.{duplicate, repeated, hasDuplicates, wellFormed, valid}
 use Rattle.files_spec.specs.Text.{bytes}
-use Rattle.files_spec.specs.Reading.{literal, digits, isNumber, decimal, number, numberWithin, variable, constant, entry}
+use Rattle.files_spec.specs.Reading.{literal, digits, isNumber, decimal, number, numberWithin, variable, constant}
+use Rattle.files_spec.specs.Reading.{entry}
 use Rattle.files_spec.specs.Reading.{sizeItem, conditionItem, effectItem, itemsAfter, numberLine, listLine, ruleLines}
 use Rattle.files_spec.specs.Reading.{rulesAfter, ruleList, fileLines, finished, reading}
-use Rattle.macros_spec.specs.Composition.{ownVariables, emptyLines, replaced, clash, equated, unified, followed, extended}
+use Rattle.macros_spec.specs.Composition.{ownVariables, emptyLines, replaced, clash, equated, unified, followed}
+use Rattle.macros_spec.specs.Composition.{extended}
 use Rattle.macros_spec.specs.Composition.{composedFrom, composed}
 use Rattle.macros_spec.specs.Answers.{macroCauses}
 use Rattle.planner_spec.specs.OfText.{ofText}

@@ -1,4 +1,5 @@
--- Rule files read: the Edges of document 01, and one file for each kind of fault, by evaluation. And the files of the worked cases, written back.
+-- Rule files read: the Edges of document 01, and one file for each kind of fault, by evaluation. And the files of the
+-- worked cases, written back.
 use Prim.Native.Nat.{ℕ, _/_, _%_}
 use Prim.Native.String.{String}
 use mathlib.Core.Path.{_≡_, refl}
@@ -8,7 +9,9 @@ use Rattle.model_spec.specs.States.{width}
 use Rattle.model_spec.specs.Validity.{conditionPlaced, effectPlaced, duplicate, repeated, hasDuplicates}
 use Rattle.files_spec.specs.Text.{bytes, numeral, line}
 use Rattle.files_spec.specs.File.{entryText, ruleText, render}
-use Rattle.files_spec.specs.Reading.{literal, digits, isNumber, decimal, number, numberWithin, variable, constant, entry, sizeItem, conditionItem, effectItem, itemsAfter, numberLine, listLine, ruleLines, rulesAfter, ruleList, fileLines, finished, reading}
+use Rattle.files_spec.specs.Reading.{literal, digits, isNumber, decimal, number, numberWithin, variable, constant}
+use Rattle.files_spec.specs.Reading.{entry, sizeItem, conditionItem, effectItem, itemsAfter, numberLine, listLine}
+use Rattle.files_spec.specs.Reading.{ruleLines, rulesAfter, ruleList, fileLines, finished, reading}
 
 -- a text, and the outcome of reading it
 pub record Row : Type 0 where
@@ -18,7 +21,8 @@ pub record Row : Type 0 where
 -- a file of one rule, by what stands after each sign
 abbrev file : String → String → String → String → String → List ℕ
 file positions sizes cost condition effect =
-    bytes "positions=" ++ bytes positions ++ bytes "\nsizes=" ++ bytes sizes ++ bytes "\nrules=1\ncost=" ++ bytes cost ++ bytes "\nif=" ++ bytes condition ++ bytes "\nthen=" ++ bytes effect ++ bytes "\n"
+    bytes "positions=" ++ bytes positions ++ bytes "\nsizes=" ++ bytes sizes ++ bytes "\nrules=1\ncost=" ++ bytes cost
+    ++ bytes "\nif=" ++ bytes condition ++ bytes "\nthen=" ++ bytes effect ++ bytes "\n"
 
 -- a file of one rule on two positions of size 3
 abbrev lines : String → String → List ℕ
@@ -28,7 +32,8 @@ lines condition effect = file "2" "3,3" "1" condition effect
 abbrev many : ℕ → List ℕ
 many n =
     bytes "positions=2\nsizes=16,16\nrules=" ++ numeral n ++ bytes "\n"
-    ++ flat (λ k. bytes "cost=0\n" ++ line "if=" (numeral (k / 16) ∷ numeral (k % 16) ∷ []) ++ bytes "then=0,0\n") (numbersFrom 0 n)
+    ++ flat (λ k. bytes "cost=0\n" ++ line "if=" (numeral (k / 16) ∷ numeral (k % 16) ∷ []) ++ bytes "then=0,0\n")
+    (numbersFrom 0 n)
 
 abbrev pub rows : List Row
 rows =
@@ -87,18 +92,27 @@ rows =
     ∷ record { text = bytes "positions=1\nsizes=2\nrules=2\ncost=1\nif=0\nthen=1\n"; outcome = 1 }
     ∷ record { text = lines "0,0" "1,1" ++ bytes "cost=1\nif=0,0\nthen=2,2\n"; outcome = 1 }
     ∷ record { text = bytes "positions=1\nsizes=2\nrules=2\ncost=1\nif=0\nthen=1\ncost=2\nif=0\nthen=1\n"; outcome = 4 }
-    ∷ record { text = bytes "positions=1\nsizes=2\nrules=2\ncost=1\nif=0\nthen=1\ncost=2\nif=0\nthen=1\n\n"; outcome = 1 }
+    ∷ record {
+      text =
+          bytes "positions=1\nsizes=2\nrules=2\ncost=1\nif=0\nthen=1\ncost=2\nif=0\nthen=1\n\n";
+      outcome = 1;
+    }
     ∷ record { text = bytes "positions=1\nsizes=2\nrules=2\ncost=1\nif=0\nthen=1\ncost=2\nif=0\nthen=1"; outcome = 1 }
     ∷ []
 
 pub files-read : map (λ (row : Row). reading (row .text) .outcome) rows ≡ map (λ (row : Row). row .outcome) rows
-unfolding width conditionPlaced effectPlaced duplicate repeated hasDuplicates numeral line literal digits isNumber decimal number numberWithin variable constant entry sizeItem conditionItem effectItem itemsAfter numberLine listLine ruleLines rulesAfter ruleList fileLines finished reading
+unfolding width conditionPlaced effectPlaced duplicate repeated hasDuplicates numeral line literal digits isNumber
+    decimal number numberWithin variable constant entry sizeItem conditionItem effectItem itemsAfter numberLine listLine
+    ruleLines rulesAfter ruleList fileLines finished reading
 files-read = refl
 
 -- a file read and written again
 abbrev rewritten : List ℕ → List ℕ
 rewritten text = render (reading text .set)
 
-pub files-rewritten : map rewritten (many 31 ∷ lines "x1,x1" "2,x1" ∷ file "1" "16" "255" "x1" "15" ∷ []) ≡ many 31 ∷ lines "x1,x1" "2,x1" ∷ file "1" "16" "255" "x1" "15" ∷ []
-unfolding width conditionPlaced effectPlaced duplicate repeated hasDuplicates numeral line entryText ruleText render literal digits isNumber decimal number numberWithin variable constant entry sizeItem conditionItem effectItem itemsAfter numberLine listLine ruleLines rulesAfter ruleList fileLines finished reading
+pub files-rewritten : map rewritten (many 31 ∷ lines "x1,x1" "2,x1" ∷ file "1" "16" "255" "x1" "15" ∷ []) ≡ many 31
+    ∷ lines "x1,x1" "2,x1" ∷ file "1" "16" "255" "x1" "15" ∷ []
+unfolding width conditionPlaced effectPlaced duplicate repeated hasDuplicates numeral line entryText ruleText render
+    literal digits isNumber decimal number numberWithin variable constant entry sizeItem conditionItem effectItem
+    itemsAfter numberLine listLine ruleLines rulesAfter ruleList fileLines finished reading
 files-rewritten = refl

@@ -1,4 +1,5 @@
--- Cases that P1 to P11 do not tell apart from a faulty planner, worked by hand, by evaluation: faults of source document 003, costs, ties, order of refusals.
+-- Cases that P1 to P11 do not tell apart from a faulty planner, worked by hand, by evaluation: faults of source
+-- document 003, costs, ties, order of refusals.
 -- And the listing of E, the packed answer of P1, the plan part and the tally.
 use Prim.Native.Nat.{ℕ}
 use mathlib.Core.Path.{_≡_, refl}
@@ -7,15 +8,22 @@ use mathlib.Core.Option.{some, none}
 use mathlib.Core.List.{List, [], _∷_, _++_, map}
 use lib.ListN.{replicate}
 use Rattle.model_spec.specs.States.{valueOf, valuesOf, applicable, successor, width, states}
-use Rattle.model_spec.specs.Rules.{emptySet, ruleAt, stepOf, ruleCost, statesOf, runIn, sequenceCost, admitted, redundant}
-use Rattle.model_spec.specs.Validity.{entryLimited, conditionPlaced, effectPlaced, conditionValid, effectValid, sizeValid, sizesValid, ruleValid, ruleBlank, ruleValidAt, rulesValid, duplicate, repeated, hasDuplicates, wellFormed, valid}
+use Rattle.model_spec.specs.Rules.{emptySet, ruleAt, stepOf, ruleCost, statesOf, runIn, sequenceCost, admitted}
+use Rattle.model_spec.specs.Rules.{redundant}
+use Rattle.model_spec.specs.Validity.{entryLimited, conditionPlaced, effectPlaced, conditionValid, effectValid}
+use Rattle.model_spec.specs.Validity.{sizeValid, sizesValid, ruleValid, ruleBlank, ruleValidAt, rulesValid, duplicate}
+use Rattle.model_spec.specs.Validity.{repeated, hasDuplicates, wellFormed, valid}
 use Rattle.model_spec.specs.declared.RuleSet.{RuleSet}
 use Rattle.files_spec.specs.Text.{bytes, numeral, line}
-use Rattle.files_spec.specs.Reading.{literal, digits, isNumber, decimal, number, numberWithin, variable, constant, entry, sizeItem, conditionItem, effectItem, itemsAfter, numberLine, listLine, ruleLines, rulesAfter, ruleList, fileLines, finished, reading}
-use Rattle.macros_spec.specs.Composition.{ownVariables, emptyLines, replaced, clash, equated, unified, followed, extended, composedFrom, composed}
+use Rattle.files_spec.specs.Reading.{literal, digits, isNumber, decimal, number, numberWithin, variable, constant}
+use Rattle.files_spec.specs.Reading.{entry, sizeItem, conditionItem, effectItem, itemsAfter, numberLine, listLine}
+use Rattle.files_spec.specs.Reading.{ruleLines, rulesAfter, ruleList, fileLines, finished, reading}
+use Rattle.macros_spec.specs.Composition.{ownVariables, emptyLines, replaced, clash, equated, unified, followed}
+use Rattle.macros_spec.specs.Composition.{extended, composedFrom, composed}
 use Rattle.macros_spec.specs.Answers.{macroCauses, macroAnswer}
 use Rattle.macros_spec.specs.Redundancy.{covers, redundantByLines}
-use Rattle.tables_spec.specs.Table.{tableEntries, sequenceAt, entryAt, marked, builtEntry, builtTable, entryJustified, accepted}
+use Rattle.tables_spec.specs.Table.{tableEntries, sequenceAt, entryAt, marked, builtEntry, builtTable, entryJustified}
+use Rattle.tables_spec.specs.Table.{accepted}
 use Rattle.tables_spec.specs.Answers.{tableCauses, buildOutcome, builtBuffer, checkCauses, checkOutcome}
 use Rattle.search_spec.specs.Query.{Query, startFits, goalFits, meetsGoal, visitedBy, plansFor}
 use Rattle.search_spec.specs.Searched.{queryCauses, cheapestPlan, searchCauses, shownPlan, searchedWith, searched}
@@ -25,7 +33,9 @@ use Rattle.search_spec.specs.declared.Tally.{Tally}
 use Rattle.planner_spec.specs.OfText.{ofText}
 use Rattle.planner_spec.specs.Packed.{packed, textRefused, searchedText, packedSearch}
 use Rattle.report_spec.specs.Listing.{markedIndices, markLines, listingOf, listing}
-use Rattle.cases_worked.proofs.Worked.{setOf, fileE, E, Question, search, macroOf, compose, build, check, list, enter, Reply, composes, vectors, builds, checks, lists, packs, reply, Row, told, keptBytes, markBytes}
+use Rattle.cases_worked.proofs.Worked.{setOf, fileE, E, Question, search, macroOf, compose, build, check, list}
+use Rattle.cases_worked.proofs.Worked.{enter, Reply, composes, vectors, builds, checks, lists, packs, reply, Row}
+use Rattle.cases_worked.proofs.Worked.{told, keptBytes, markBytes}
 
 -- ── Macros ───────────────────────────────────────────────────────────────────────────────────────
 
@@ -38,10 +48,24 @@ abbrev twice : RuleSet
 twice = setOf "positions=3\nsizes=4,4,4\nrules=1\ncost=1\nif=0,1,x3\nthen=x3,x3,3\n"
 
 abbrev composed-to : List ℕ → List ℕ → ℕ → Reply
-composed-to condition effect cost = composes (record { outcome = 0; result = record { condition = condition ++ replicate 14 0; effect = effect ++ replicate 14 0; cost = cost } })
+composed-to condition effect cost =
+    composes (record {
+      outcome = 0;
+      result = record {
+        condition = condition ++ replicate 14 0;
+        effect = effect
+            ++ replicate 14 0;
+        cost = cost;
+      };
+    })
 
 abbrev macro-refused : ℕ → Reply
-macro-refused outcome = composes (record { outcome = outcome; result = record { condition = replicate 16 0; effect = replicate 16 0; cost = 0 } })
+macro-refused outcome =
+    composes (record {
+      outcome = outcome;
+      result =
+          record { condition = replicate 16 0; effect = replicate 16 0; cost = 0 };
+    })
 
 abbrev macros : List Row
 macros =
@@ -51,7 +75,12 @@ macros =
     ∷ record { asked = macroOf twice (1 ∷ 1 ∷ []); expected = macro-refused 17 }
     -- the outcome goes by the states, so the composition is asked by itself
     ∷ record { asked = compose twice (1 ∷ 1 ∷ []); expected = vectors none }
-    ∷ record { asked = compose swapped (1 ∷ 2 ∷ []); expected = vectors (some (record { condition = (16 ∷ 16 ∷ []) ++ replicate 14 0; effect = (0 ∷ 16 ∷ []) ++ replicate 14 0 })) }
+    ∷ record {
+      asked =
+          compose swapped (1 ∷ 2 ∷ []);
+      expected = vectors
+          (some (record { condition = (16 ∷ 16 ∷ []) ++ replicate 14 0; effect = (0 ∷ 16 ∷ []) ++ replicate 14 0 }));
+    }
     -- a move that is no rule's number comes before 17 wherever it stands, and more than 32 moves before both
     ∷ record { asked = macroOf twice (1 ∷ 1 ∷ 2 ∷ []); expected = macro-refused 13 }
     ∷ record { asked = macroOf twice (0 ∷ []); expected = macro-refused 13 }
@@ -105,7 +134,8 @@ tables =
 
 -- two plans of cost 2: (3), and (1,2), which a depth-first search meets first
 abbrev tied : RuleSet
-tied = setOf "positions=2\nsizes=2,2\nrules=3\ncost=1\nif=0,x2\nthen=1,x2\ncost=1\nif=1,0\nthen=1,1\ncost=2\nif=0,0\nthen=1,1\n"
+tied =
+    setOf "positions=2\nsizes=2,2\nrules=3\ncost=1\nif=0,x2\nthen=1,x2\ncost=1\nif=1,0\nthen=1,1\ncost=2\nif=0,0\nthen=1,1\n"
 
 -- the first goal state met, by rule 1, is not the cheapest
 abbrev dear : RuleSet
@@ -114,12 +144,30 @@ dear = setOf "positions=1\nsizes=3\nrules=3\ncost=9\nif=0\nthen=2\ncost=1\nif=0\
 -- a query at reach 1 with a table that keeps all of three rules
 abbrev unpruned : RuleSet → List ℕ → List ℕ → ℕ → ℕ → ℕ → Question
 unpruned set start goal moves cost limit =
-    search set (record { reach = 1; table = replicate 8 255; start = start; goal = goal; maxMoves = moves; maxCost = cost; stepLimit = limit }) moves
+    search set (record {
+      reach = 1;
+      table = replicate 8 255;
+      start = start;
+      goal = goal;
+      maxMoves = moves;
+      maxCost =
+          cost;
+      stepLimit = limit;
+    }) moves
 
 -- a query of E at a reach, with a table, and with a start and a goal; 2 moves, cost bound 9
 abbrev faulty : ℕ → List ℕ → List ℕ → List ℕ → ℕ → ℕ → Question
 faulty reach table start goal limit room =
-    search E (record { reach = reach; table = table; start = start; goal = goal; maxMoves = 2; maxCost = 9; stepLimit = limit }) room
+    search E (record {
+      reach = reach;
+      table = table;
+      start = start;
+      goal = goal;
+      maxMoves = 2;
+      maxCost = 9;
+      stepLimit =
+          limit;
+    }) room
 
 abbrev both : ℕ → List ℕ
 both v = v ∷ v ∷ []
@@ -134,7 +182,19 @@ searches =
     ∷ record { asked = unpruned dear (0 ∷ []) (255 ∷ []) 2 20 4; expected = told 0 0 0 4 (255 ∷ 255 ∷ []) }
     ∷ record { asked = unpruned dear (0 ∷ []) (255 ∷ []) 2 20 3; expected = told 16 0 0 3 (255 ∷ 255 ∷ []) }
     -- the order of the refusals: each of these has later faults of the query too
-    ∷ record { asked = search emptySet (record { reach = 0; table = []; start = 0 ∷ []; goal = []; maxMoves = 1; maxCost = 0; stepLimit = 0 }) 0; expected = told 7 0 0 0 [] }
+    ∷ record {
+      asked =
+          search emptySet (record {
+            reach = 0;
+            table = [];
+            start = 0 ∷ [];
+            goal = [];
+            maxMoves = 1;
+            maxCost = 0;
+            stepLimit = 0;
+          }) 0;
+      expected = told 7 0 0 0 [];
+    }
     ∷ record { asked = faulty 0 [] (2 ∷ []) (2 ∷ []) 0 1; expected = told 5 0 0 0 (255 ∷ []) }
     ∷ record { asked = faulty 4 [] (2 ∷ []) (2 ∷ []) 0 1; expected = told 5 0 0 0 (255 ∷ []) }
     ∷ record { asked = faulty 2 (replicate 13 0) (2 ∷ []) (2 ∷ []) 0 1; expected = told 6 0 0 0 (255 ∷ []) }
@@ -151,11 +211,25 @@ searches =
 
 -- the query of P1
 abbrev first : Query
-first = record { reach = 2; table = builtTable E 2; start = both 1; goal = both 0; maxMoves = 2; maxCost = 9; stepLimit = 4 }
+first =
+    record {
+      reach = 2;
+      table = builtTable E 2;
+      start = both 1;
+      goal = both 0;
+      maxMoves = 2;
+      maxCost = 9;
+      stepLimit =
+          4;
+    }
 
 abbrev texts : List Row
 texts =
-    record { asked = list fileE; expected = lists (bytes "reach=2\nrules=2\nmarks=3\ndrop=1,1\nfor=1\ndrop=2,1\nfor=1,2\ndrop=2,2\nfor=2\n") }
+    record {
+      asked = list fileE;
+      expected = lists
+          (bytes "reach=2\nrules=2\nmarks=3\ndrop=1,1\nfor=1\ndrop=2,1\nfor=1,2\ndrop=2,2\nfor=2\n");
+    }
     ∷ record { asked = list "positions=17\n"; expected = lists (bytes "refused=2\n") }
     -- 0 + 256 · 2 + 65536 · 2 + 2^32 · 4
     ∷ record { asked = enter fileE first 3; expected = packs 17180000768 (1 ∷ 2 ∷ 255 ∷ []) }
@@ -166,7 +240,15 @@ abbrev pub rows : List Row
 rows = macros ++ tables ++ searches ++ texts
 
 pub further-cases : map (λ (row : Row). reply (row .asked)) rows ≡ map (λ (row : Row). row .expected) rows
-unfolding valueOf valuesOf applicable successor width states ruleAt stepOf ruleCost statesOf runIn sequenceCost admitted redundant entryLimited conditionPlaced effectPlaced conditionValid effectValid sizeValid sizesValid ruleValid ruleBlank ruleValidAt rulesValid duplicate repeated hasDuplicates wellFormed valid literal digits isNumber decimal number numberWithin variable constant entry sizeItem conditionItem effectItem itemsAfter numberLine listLine ruleLines rulesAfter ruleList fileLines finished reading ownVariables emptyLines replaced clash equated unified followed extended composedFrom composed macroCauses macroAnswer tableEntries sequenceAt entryAt marked builtEntry builtTable entryJustified accepted tableCauses buildOutcome builtBuffer checkCauses checkOutcome startFits goalFits meetsGoal visitedBy plansFor queryCauses cheapestPlan searchCauses shownPlan searchedWith searched numeral line markedIndices markLines listingOf listing packed textRefused ofText searchedText packedSearch
+unfolding valueOf valuesOf applicable successor width states ruleAt stepOf ruleCost statesOf runIn sequenceCost admitted
+    redundant entryLimited conditionPlaced effectPlaced conditionValid effectValid sizeValid sizesValid ruleValid
+    ruleBlank ruleValidAt rulesValid duplicate repeated hasDuplicates wellFormed valid literal digits isNumber decimal
+    number numberWithin variable constant entry sizeItem conditionItem effectItem itemsAfter numberLine listLine
+    ruleLines rulesAfter ruleList fileLines finished reading ownVariables emptyLines replaced clash equated unified
+    followed extended composedFrom composed macroCauses macroAnswer tableEntries sequenceAt entryAt marked builtEntry
+    builtTable entryJustified accepted tableCauses buildOutcome builtBuffer checkCauses checkOutcome startFits goalFits
+    meetsGoal visitedBy plansFor queryCauses cheapestPlan searchCauses shownPlan searchedWith searched numeral line
+    markedIndices markLines listingOf listing packed textRefused ofText searchedText packedSearch
 further-cases = refl
 
 -- ── Redundancy ───────────────────────────────────────────────────────────────────────────────────
@@ -188,19 +270,60 @@ redundancies = refl
 
 -- ── Plan part and tally ──────────────────────────────────────────────────────────────────────────
 
-pub plan-parts : map (planPart (1 ∷ 2 ∷ 255 ∷ [])) (0 ∷ 2 ∷ 3 ∷ 4 ∷ []) ≡ [] ∷ (1 ∷ 2 ∷ []) ∷ (1 ∷ 2 ∷ 255 ∷ []) ∷ [] ∷ []
+pub plan-parts : map (planPart (1 ∷ 2 ∷ 255 ∷ [])) (0 ∷ 2 ∷ 3 ∷ 4 ∷ []) ≡ [] ∷ (1 ∷ 2 ∷ []) ∷ (1 ∷ 2 ∷ 255 ∷ []) ∷ []
+    ∷ []
 unfolding planPart
 plan-parts = refl
 
 -- counts that are at their top or one below it
 abbrev full : Tally
-full = record { solved = 18446744073709551615; unsolvable = 18446744073709551614; limited = 5; refused = 7; steps = 18446744073709551610 }
+full =
+    record {
+      solved = 18446744073709551615;
+      unsolvable = 18446744073709551614;
+      limited = 5;
+      refused = 7;
+      steps =
+          18446744073709551610;
+    }
 
 pub tallies : map (λ (outcome : ℕ). talliedOf full outcome 9) (0 ∷ 15 ∷ 16 ∷ 17 ∷ [])
-    ≡ record { solved = 18446744073709551615; unsolvable = 18446744073709551614; limited = 5; refused = 7; steps = 18446744073709551615 }
-    ∷ record { solved = 18446744073709551615; unsolvable = 18446744073709551615; limited = 5; refused = 7; steps = 18446744073709551615 }
-    ∷ record { solved = 18446744073709551615; unsolvable = 18446744073709551614; limited = 6; refused = 7; steps = 18446744073709551615 }
-    ∷ record { solved = 18446744073709551615; unsolvable = 18446744073709551614; limited = 5; refused = 8; steps = 18446744073709551615 }
+    ≡ record {
+      solved =
+          18446744073709551615;
+      unsolvable = 18446744073709551614;
+      limited = 5;
+      refused = 7;
+      steps =
+          18446744073709551615;
+    }
+    ∷ record {
+      solved =
+          18446744073709551615;
+      unsolvable = 18446744073709551615;
+      limited = 5;
+      refused = 7;
+      steps =
+          18446744073709551615;
+    }
+    ∷ record {
+      solved =
+          18446744073709551615;
+      unsolvable = 18446744073709551614;
+      limited = 6;
+      refused = 7;
+      steps =
+          18446744073709551615;
+    }
+    ∷ record {
+      solved =
+          18446744073709551615;
+      unsolvable = 18446744073709551614;
+      limited = 5;
+      refused = 8;
+      steps =
+          18446744073709551615;
+    }
     ∷ []
 unfolding talliedOf
 tallies = refl

@@ -14,16 +14,19 @@ use Rattle.model_spec.specs.Refusals.{firstRefusal}
 use Rattle.files_spec.specs.Text.{bytes, numeral, line}
 use Rattle.tables_spec.specs.Table.{sequenceCount}
 
-pub case-sequences : sequences 2 2 ≡ [] ∷ (1 ∷ []) ∷ (2 ∷ []) ∷ (1 ∷ 1 ∷ []) ∷ (1 ∷ 2 ∷ []) ∷ (2 ∷ 1 ∷ []) ∷ (2 ∷ 2 ∷ []) ∷ []
+pub case-sequences : sequences 2 2 ≡ [] ∷ (1 ∷ []) ∷ (2 ∷ []) ∷ (1 ∷ 1 ∷ []) ∷ (1 ∷ 2 ∷ []) ∷ (2 ∷ 1 ∷ [])
+    ∷ (2 ∷ 2 ∷ []) ∷ []
 case-sequences = refl
 
-pub case-depthFirst : depthFirst 2 2 ≡ [] ∷ (1 ∷ []) ∷ (1 ∷ 1 ∷ []) ∷ (1 ∷ 2 ∷ []) ∷ (2 ∷ []) ∷ (2 ∷ 1 ∷ []) ∷ (2 ∷ 2 ∷ []) ∷ []
+pub case-depthFirst : depthFirst 2 2 ≡ [] ∷ (1 ∷ []) ∷ (1 ∷ 1 ∷ []) ∷ (1 ∷ 2 ∷ []) ∷ (2 ∷ []) ∷ (2 ∷ 1 ∷ [])
+    ∷ (2 ∷ 2 ∷ []) ∷ []
 case-depthFirst = refl
 
 pub case-cost : costOf (λ r. r + 1) (1 ∷ 2 ∷ []) ≡ 5
 case-cost = refl
 
-pub case-segments : segments (1 ∷ 2 ∷ 3 ∷ []) ≡ (1 ∷ []) ∷ (1 ∷ 2 ∷ []) ∷ (1 ∷ 2 ∷ 3 ∷ []) ∷ (2 ∷ []) ∷ (2 ∷ 3 ∷ []) ∷ (3 ∷ []) ∷ []
+pub case-segments : segments (1 ∷ 2 ∷ 3 ∷ []) ≡ (1 ∷ []) ∷ (1 ∷ 2 ∷ []) ∷ (1 ∷ 2 ∷ 3 ∷ []) ∷ (2 ∷ []) ∷ (2 ∷ 3 ∷ [])
+    ∷ (3 ∷ []) ∷ []
 case-segments = refl
 
 -- the first of least cost

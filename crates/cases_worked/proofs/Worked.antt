@@ -1,5 +1,6 @@
 -- The worked cases P1 to P11 of document 01: one table, proved together of the definitions, by evaluation.
--- The rule sets are what `reading` gives of their files. Each search is asked with a plan buffer of exactly the move bound and with a longer one.
+-- The rule sets are what `reading` gives of their files. Each search is asked with a plan buffer of exactly the move
+-- bound and with a longer one.
 use Prim.Native.Nat.{ℕ}
 use Prim.Native.String.{String}
 use mathlib.Core.Path.{_≡_, refl}
@@ -9,18 +10,24 @@ use lib.ListN.{replicate}
 use Rattle.theory_spec.specs.Sequences.{Sequence}
 use Rattle.model_spec.specs.States.{valueOf, valuesOf, applicable, successor, width, states}
 use Rattle.model_spec.specs.Rules.{ruleAt, stepOf, ruleCost, statesOf, runIn, sequenceCost, admitted, redundant}
-use Rattle.model_spec.specs.Validity.{entryLimited, conditionPlaced, effectPlaced, conditionValid, effectValid, sizeValid, sizesValid, ruleValid, ruleBlank, ruleValidAt, rulesValid, duplicate, repeated, hasDuplicates, wellFormed, valid}
+use Rattle.model_spec.specs.Validity.{entryLimited, conditionPlaced, effectPlaced, conditionValid, effectValid}
+use Rattle.model_spec.specs.Validity.{sizeValid, sizesValid, ruleValid, ruleBlank, ruleValidAt, rulesValid, duplicate}
+use Rattle.model_spec.specs.Validity.{repeated, hasDuplicates, wellFormed, valid}
 use Rattle.model_spec.specs.declared.RuleSet.{RuleSet}
 use Rattle.files_spec.specs.Text.{bytes}
-use Rattle.files_spec.specs.Reading.{literal, digits, isNumber, decimal, number, numberWithin, variable, constant, entry, sizeItem, conditionItem, effectItem, itemsAfter, numberLine, listLine, ruleLines, rulesAfter, ruleList, fileLines, finished, reading}
-use Rattle.macros_spec.specs.Composition.{Lines, ownVariables, emptyLines, replaced, clash, equated, unified, followed, extended, composedFrom, composed}
+use Rattle.files_spec.specs.Reading.{literal, digits, isNumber, decimal, number, numberWithin, variable, constant}
+use Rattle.files_spec.specs.Reading.{entry, sizeItem, conditionItem, effectItem, itemsAfter, numberLine, listLine}
+use Rattle.files_spec.specs.Reading.{ruleLines, rulesAfter, ruleList, fileLines, finished, reading}
+use Rattle.macros_spec.specs.Composition.{Lines, ownVariables, emptyLines, replaced, clash, equated, unified, followed}
+use Rattle.macros_spec.specs.Composition.{extended, composedFrom, composed}
 use Rattle.macros_spec.specs.Answers.{macroCauses, macroAnswer}
 use Rattle.macros_spec.specs.declared.MacroAnswer.{MacroAnswer}
 use Rattle.tables_spec.specs.Table.{tableEntries, sequenceAt, kept, entryAt, marked, builtEntry, builtTable}
 use Rattle.tables_spec.specs.Table.{entryJustified, accepted}
 use Rattle.tables_spec.specs.Answers.{tableCauses, buildOutcome, builtBuffer, checkCauses, checkOutcome}
 use Rattle.search_spec.specs.Query.{Query, startFits, goalFits, meetsGoal, visitedBy, plansFor}
-use Rattle.search_spec.specs.Searched.{Searched, queryCauses, cheapestPlan, searchCauses, shownPlan, searchedWith, searched}
+use Rattle.search_spec.specs.Searched.{Searched, queryCauses, cheapestPlan, searchCauses, shownPlan, searchedWith}
+use Rattle.search_spec.specs.Searched.{searched}
 use Rattle.planner_spec.specs.Packed.{searchedText, packedSearch}
 use Rattle.report_spec.specs.Listing.{listing}
 
@@ -86,12 +93,30 @@ pub record Row : Type 0 where
 -- a query of E with its built table, start 1,1 and cost bound as given
 abbrev ofE : List ℕ → ℕ → ℕ → ℕ → ℕ → Question
 ofE goal moves cost limit room =
-    search E (record { reach = 2; table = builtTable E 2; start = 1 ∷ 1 ∷ []; goal = goal; maxMoves = moves; maxCost = cost; stepLimit = limit }) room
+    search E (record {
+      reach = 2;
+      table = builtTable E 2;
+      start = 1 ∷ 1 ∷ [];
+      goal = goal;
+      maxMoves = moves;
+      maxCost =
+          cost;
+      stepLimit = limit;
+    }) room
 
 -- a query of H with a table of reach 2: start 0,0,0, goal 3,1,1, 3 moves, cost bound 9, step limit 5
 abbrev ofH : List ℕ → ℕ → Question
 ofH table room =
-    search H (record { reach = 2; table = table; start = 0 ∷ 0 ∷ 0 ∷ []; goal = 3 ∷ 1 ∷ 1 ∷ []; maxMoves = 3; maxCost = 9; stepLimit = 5 }) room
+    search H (record {
+      reach = 2;
+      table = table;
+      start = 0 ∷ 0 ∷ 0 ∷ [];
+      goal = 3 ∷ 1 ∷ 1 ∷ [];
+      maxMoves = 3;
+      maxCost =
+          9;
+      stepLimit = 5;
+    }) room
 
 abbrev pub told : ℕ → ℕ → ℕ → ℕ → List ℕ → Reply
 told outcome cost n steps plan =
@@ -99,7 +124,16 @@ told outcome cost n steps plan =
 
 -- the macro of three positions
 abbrev lines : List ℕ → List ℕ → ℕ → Reply
-lines condition effect cost = composes (record { outcome = 0; result = record { condition = condition ++ replicate 13 0; effect = effect ++ replicate 13 0; cost = cost } })
+lines condition effect cost =
+    composes (record {
+      outcome = 0;
+      result = record {
+        condition = condition ++ replicate 13 0;
+        effect = effect
+            ++ replicate 13 0;
+        cost = cost;
+      };
+    })
 
 -- two bytes of a table: kept, and marked with a witness below 256
 abbrev pub keptBytes : List ℕ
@@ -108,7 +142,8 @@ keptBytes = 255 ∷ 255 ∷ []
 abbrev pub markBytes : ℕ → List ℕ
 markBytes witness = witness ∷ 0 ∷ []
 
--- the table of P8: (1,2), index 6, is kept; (3,4), index 16, is marked with 12. Document 01 names these two; the others were worked by hand
+-- the table of P8: (1,2), index 6, is kept; (3,4), index 16, is marked with 12. Document 01 names these two; the others
+-- were worked by hand
 abbrev tableH : List ℕ
 tableH =
     keptBytes ++ keptBytes ++ keptBytes ++ keptBytes ++ keptBytes
@@ -163,5 +198,12 @@ rows =
     ∷ []
 
 pub worked-cases : map (λ (row : Row). reply (row .asked)) rows ≡ map (λ (row : Row). row .expected) rows
-unfolding valueOf valuesOf applicable successor width states ruleAt stepOf ruleCost statesOf runIn sequenceCost admitted redundant entryLimited conditionPlaced effectPlaced conditionValid effectValid sizeValid sizesValid ruleValid ruleBlank ruleValidAt rulesValid duplicate repeated hasDuplicates wellFormed valid literal digits isNumber decimal number numberWithin variable constant entry sizeItem conditionItem effectItem itemsAfter numberLine listLine ruleLines rulesAfter ruleList fileLines finished reading ownVariables emptyLines replaced clash equated unified followed extended composedFrom composed macroCauses macroAnswer tableEntries sequenceAt entryAt marked builtEntry builtTable entryJustified accepted tableCauses buildOutcome builtBuffer checkCauses checkOutcome startFits goalFits meetsGoal visitedBy plansFor queryCauses cheapestPlan searchCauses shownPlan searchedWith searched
+unfolding valueOf valuesOf applicable successor width states ruleAt stepOf ruleCost statesOf runIn sequenceCost admitted
+    redundant entryLimited conditionPlaced effectPlaced conditionValid effectValid sizeValid sizesValid ruleValid
+    ruleBlank ruleValidAt rulesValid duplicate repeated hasDuplicates wellFormed valid literal digits isNumber decimal
+    number numberWithin variable constant entry sizeItem conditionItem effectItem itemsAfter numberLine listLine
+    ruleLines rulesAfter ruleList fileLines finished reading ownVariables emptyLines replaced clash equated unified
+    followed extended composedFrom composed macroCauses macroAnswer tableEntries sequenceAt entryAt marked builtEntry
+    builtTable entryJustified accepted tableCauses buildOutcome builtBuffer checkCauses checkOutcome startFits goalFits
+    meetsGoal visitedBy plansFor queryCauses cheapestPlan searchCauses shownPlan searchedWith searched
 worked-cases = refl

@@ -50,7 +50,8 @@ unfolding digits
 digits-are [] = refl
 digits-are (b ∷ text) = go (isDigit b) refl (digits-are text)
   where
-    go : (t : Bool) → isDigit b ≡ t → every isDigit (digits text) ≡ true → every isDigit (cond t (b ∷ digits text) []) ≡ true
+    go : (t : Bool) → isDigit b ≡ t → every isDigit (digits text) ≡ true
+        → every isDigit (cond t (b ∷ digits text) []) ≡ true
     go true e ih = and-join e ih
     go false e ih = refl
 
@@ -67,10 +68,12 @@ digits-front (b ∷ text) = go (isDigit b) (digits-front text)
 
 -- there are no more digits than bytes
 pub digits-length : (text : List ℕ) → length (digits text) ≤ length text
-digits-length text = omega (arith, ap length (digits-front text), length-append (digits text) (drop (length (digits text)) text))
+digits-length text =
+    omega (arith, ap length (digits-front text), length-append (digits text) (drop (length (digits text)) text))
 
 -- digits before a byte that is none are the digits at the front
-digits-stop : (ds : List ℕ) (b : ℕ) (rest : List ℕ) → every isDigit ds ≡ true → isDigit b ≡ false → digits (ds ++ (b ∷ rest)) ≡ ds
+digits-stop : (ds : List ℕ) (b : ℕ) (rest : List ℕ) → every isDigit ds ≡ true → isDigit b ≡ false
+    → digits (ds ++ (b ∷ rest)) ≡ ds
 unfolding digits
 digits-stop [] b rest h k = rw k
 digits-stop (d ∷ ds) b rest h k =
@@ -84,18 +87,21 @@ numeral-digits : (n : ℕ) → n < 1000 → every isDigit (numeral n) ≡ true
 numeral-digits n h =
     by-length (λ ds. every isDigit ds ≡ true) n (λ k. and-join (digit-is n k) refl)
     (λ _ k. and-join (digit-is (n / 10) (omega arith)) (and-join (digit-is (n % 10) (omega arith)) refl))
-    (λ _. and-join (digit-is (n / 100) (omega arith)) (and-join (digit-is (n / 10 % 10) (omega arith)) (and-join (digit-is (n % 10) (omega arith)) refl)))
+    (λ _. and-join (digit-is (n / 100) (omega arith))
+    (and-join (digit-is (n / 10 % 10) (omega arith)) (and-join (digit-is (n % 10) (omega arith)) refl)))
 
 -- a numeral starts with a digit
 pub numeral-first : (n : ℕ) (rest : List ℕ) → n < 1000 → isDigit (getD (numeral n ++ rest) 0 0) ≡ true
 numeral-first n rest h =
-    by-length (λ ds. isDigit (getD (ds ++ rest) 0 0) ≡ true) n (λ k. digit-is n k) (λ _ k. digit-is (n / 10) (omega arith)) (λ _. digit-is (n / 100) (omega arith))
+    by-length (λ ds. isDigit (getD (ds ++ rest) 0 0) ≡ true) n (λ k. digit-is n k)
+    (λ _ k. digit-is (n / 10) (omega arith)) (λ _. digit-is (n / 100) (omega arith))
 
 -- a numeral is a number: its first digit is not 0 unless it is the only one
 numeral-number : (n : ℕ) → isNumber (numeral n) ≡ true
 unfolding isNumber
 numeral-number n =
-    by-length (λ ds. isNumber ds ≡ true) n (λ _. refl) (λ h _. rw (ne-eqb (digit (n / 10)) 48 (omega arith))) (λ h. rw (ne-eqb (digit (n / 100)) 48 (omega arith)))
+    by-length (λ ds. isNumber ds ≡ true) n (λ _. refl) (λ h _. rw (ne-eqb (digit (n / 10)) 48 (omega arith)))
+    (λ h. rw (ne-eqb (digit (n / 100)) 48 (omega arith)))
 
 -- a numeral stands for its number
 decimal-numeral : (n : ℕ) → decimal (numeral n) ≡ n
@@ -112,7 +118,8 @@ first-digit : (a : ℕ) → not (eqb a 48) ≡ true → isDigit a ≡ true → (
 first-digit a h k = let e = eqb-false a 48 (not-true (eqb a 48) h) in let d = digit-limits a k in omega arith
 
 -- digits that are a number are the numeral of what they stand for, which is below 1000
-numeral-decimal : (ds : List ℕ) → every isDigit ds ≡ true → isNumber ds ≡ true → (decimal ds < 1000) × (numeral (decimal ds) ≡ ds)
+numeral-decimal : (ds : List ℕ) → every isDigit ds ≡ true → isNumber ds ≡ true → (decimal ds < 1000)
+    × (numeral (decimal ds) ≡ ds)
 unfolding decimal isNumber
 numeral-decimal [] h k = absurd (false≢true k)
 numeral-decimal (a ∷ []) h k =
@@ -121,19 +128,27 @@ numeral-decimal (a ∷ []) h k =
 numeral-decimal (a ∷ b ∷ []) h k =
     let w = and-split (isDigit a) _ h in
     let d = first-digit a k (w .0) in
-    let d′ = digit-limits b (and-split (isDigit b) true (w .1) .0) in
-    (omega arith, numeral-two (decimal (a ∷ b ∷ [])) (omega arith) (omega arith) ∙ ap₂ {C = List ℕ} (λ x y. x ∷ y ∷ []) (omega arith) (omega arith))
+    let d′ = digit-limits b (and-split (isDigit b) true (w .1) .0) in (
+      omega arith,
+      numeral-two (decimal (a ∷ b ∷ [])) (omega arith) (omega arith)
+          ∙ ap₂ {C = List ℕ} (λ x y. x ∷ y ∷ []) (omega arith) (omega arith),
+    )
 numeral-decimal (a ∷ b ∷ c ∷ []) h k =
     let w = and-split (isDigit a) _ h in
     let v = and-split (isDigit b) _ (w .1) in
     let d = first-digit a k (w .0) in
     let d′ = digit-limits b (v .0) in
-    let d″ = digit-limits c (and-split (isDigit c) true (v .1) .0) in
-    (omega arith, numeral-three (decimal (a ∷ b ∷ c ∷ [])) (omega arith) ∙ ap₂ {C = List ℕ} (λ x l. x ∷ l) (omega arith) (ap₂ {C = List ℕ} (λ x y. x ∷ y ∷ []) (omega arith) (omega arith)))
+    let d″ = digit-limits c (and-split (isDigit c) true (v .1) .0) in (
+      omega arith,
+      numeral-three (decimal (a ∷ b ∷ c ∷ [])) (omega arith)
+          ∙ ap₂ {C = List ℕ} (λ x l. x ∷ l) (omega arith)
+          (ap₂ {C = List ℕ} (λ x y. x ∷ y ∷ []) (omega arith) (omega arith)),
+    )
 numeral-decimal (a ∷ b ∷ c ∷ d ∷ ds) h k = absurd (omega (arith, number-length (a ∷ b ∷ c ∷ d ∷ ds) k))
 
 -- a number that is read is below 1000, and stands at the front of the text with the byte that ends it
-pub number-read : (ending : ℕ) (text : List ℕ) (n : ℕ) (rest : List ℕ) → number ending text ≡ parsed n rest → (n < 1000) × (text ≡ numeral n ++ (ending ∷ rest))
+pub number-read : (ending : ℕ) (text : List ℕ) (n : ℕ) (rest : List ℕ) → number ending text ≡ parsed n rest → (n < 1000)
+    × (text ≡ numeral n ++ (ending ∷ rest))
 unfolding number
 number-read ending text n rest e =
     let ds = digits text in
@@ -145,7 +160,14 @@ number-read ending text n rest e =
     (d .0, digits-front text ∙ ap₂ (λ x y. x ++ y) (sym (d .1)) (literal-read (ending ∷ []) behind mid q)))
 
 -- a number below 1000 at the front of a text, with the byte that ends it, is read
-pub number-back : (ending n : ℕ) (rest : List ℕ) → isDigit ending ≡ false → n < 1000 → number ending (numeral n ++ (ending ∷ rest)) ≡ parsed n rest
+pub number-back : (ending n : ℕ) (rest : List ℕ) → isDigit ending ≡ false → n < 1000
+    → number ending (numeral n ++ (ending ∷ rest)) ≡ parsed n rest
 unfolding number
 number-back ending n rest h k =
-    rw (digits-stop (numeral n) ending rest (numeral-digits n k) h, numeral-number n, drop-append-seam (numeral n) (ending ∷ rest), literal-back (ending ∷ []) rest, decimal-numeral n)
+    rw (
+      digits-stop (numeral n) ending rest (numeral-digits n k) h,
+      numeral-number n,
+      drop-append-seam (numeral n) (ending ∷ rest),
+      literal-back (ending ∷ []) rest,
+      decimal-numeral n,
+    )

@@ -19,7 +19,8 @@ module _ (text : List ℕ) where
   line-refused n e = ap finished e
 
   -- bytes are left over
-  pub left-over : (set : RuleSet) (b : ℕ) (rest : List ℕ) → fileLines text ≡ parsed set (b ∷ rest) → reading text ≡ record { outcome = 1; set = emptySet }
+  pub left-over : (set : RuleSet) (b : ℕ) (rest : List ℕ) → fileLines text ≡ parsed set (b ∷ rest)
+      → reading text ≡ record { outcome = 1; set = emptySet }
   unfolding reading finished
   left-over set b rest e = ap finished e
 
@@ -27,14 +28,19 @@ module _ (text : List ℕ) where
   pub at-end : (set : RuleSet) {d : Bool} → fileLines text ≡ parsed set [] → hasDuplicates (set .rules) (set .count) ≡ d
       → reading text ≡ cond d (record { outcome = 4; set = emptySet }) (record { outcome = 0; set = set })
   unfolding reading finished
-  at-end set e d = ap finished e ∙ ap (λ d. cond {A = Reading} d (record { outcome = 4; set = emptySet }) (record { outcome = 0; set = set })) d
+  at-end set e d =
+      ap finished e ∙ ap (λ d. cond {A = Reading} d (record { outcome = 4; set = emptySet })
+      (record { outcome = 0; set = set })) d
 
 -- the four ways
 pub data Ends (text : List ℕ) (r : Reading) : Type 0 where
   inLine : (n : ℕ) → fileLines text ≡ refused n → r ≡ record { outcome = n; set = emptySet } → Ends text r
-  tooLong : (set : RuleSet) (b : ℕ) (rest : List ℕ) → fileLines text ≡ parsed set (b ∷ rest) → r ≡ record { outcome = 1; set = emptySet } → Ends text r
-  duplicated : (set : RuleSet) → fileLines text ≡ parsed set [] → hasDuplicates (set .rules) (set .count) ≡ true → r ≡ record { outcome = 4; set = emptySet } → Ends text r
-  accepted : (set : RuleSet) → fileLines text ≡ parsed set [] → hasDuplicates (set .rules) (set .count) ≡ false → r ≡ record { outcome = 0; set = set } → Ends text r
+  tooLong : (set : RuleSet) (b : ℕ) (rest : List ℕ) → fileLines text ≡ parsed set (b ∷ rest)
+      → r ≡ record { outcome = 1; set = emptySet } → Ends text r
+  duplicated : (set : RuleSet) → fileLines text ≡ parsed set [] → hasDuplicates (set .rules) (set .count) ≡ true
+      → r ≡ record { outcome = 4; set = emptySet } → Ends text r
+  accepted : (set : RuleSet) → fileLines text ≡ parsed set [] → hasDuplicates (set .rules) (set .count) ≡ false
+      → r ≡ record { outcome = 0; set = set } → Ends text r
 
 -- reading ends in one of them
 pub reading-ends : (text : List ℕ) → Ends text (reading text)
@@ -43,4 +49,6 @@ reading-ends text = go (fileLines text) refl
     go : (p : Parsed RuleSet) → fileLines text ≡ p → Ends text (reading text)
     go (refused n) e = inLine n e (line-refused text n e)
     go (parsed set (b ∷ rest)) e = tooLong set b rest e (left-over text set b rest e)
-    go (parsed set []) e = ⊎-elim (λ d. duplicated set e d (at-end text set e d)) (λ d. accepted set e d (at-end text set e d)) (passes? (hasDuplicates (set .rules) (set .count)))
+    go (parsed set []) e =
+        ⊎-elim (λ d. duplicated set e d (at-end text set e d)) (λ d. accepted set e d (at-end text set e d))
+        (passes? (hasDuplicates (set .rules) (set .count)))

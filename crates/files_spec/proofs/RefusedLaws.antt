@@ -1,4 +1,5 @@
--- What a refused reading and a refused writing leave, which numbers a reading gives, and that the writer's buffer keeps its length.
+-- What a refused reading and a refused writing leave, which numbers a reading gives, and that the writer's buffer keeps
+-- its length.
 -- Assumes nothing.
 use mathlib.Core.Path.{_≡_, refl, sym, ap}
 use mathlib.Core.Logic.{_≢_}
@@ -42,7 +43,8 @@ reading-numbers text = go (reading-ends text)
 
 -- no other number
 pub reading-other : (text : List ℕ) (n : ℕ) → any (eqb n) readNumbers ≡ false → reading text .outcome ≢ n
-reading-other text n none e = not-both (true-any (eqb n) (reading-numbers text) (eqb-iff n (reading text .outcome) .1 (sym e))) none
+reading-other text n none e =
+    not-both (true-any (eqb n) (reading-numbers text) (eqb-iff n (reading text .outcome) .1 (sym e))) none
 
 -- each fits one byte
 pub reading-byte : (text : List ℕ) → reading text .outcome < 256
@@ -80,10 +82,12 @@ module _ (set : RuleSet) (room : ℕ) where
   written-size = padded-length room 0 (writtenText set room) text-fits
 
   -- a refused writing gives length 0 and zeroes the whole buffer
-  pub written-refused : written set room .outcome ≢ 0 → (written set room .length ≡ 0) × (writtenBuffer set room ≡ replicate room 0)
+  pub written-refused : written set room .outcome ≢ 0 → (written set room .length ≡ 0)
+      × (writtenBuffer set room ≡ replicate room 0)
   unfolding written writtenText writtenBuffer
   written-refused h = go (eqb (firstRefusal (writeCauses set room)) 0) refl
     where
-      go : (b : Bool) → eqb (firstRefusal (writeCauses set room)) 0 ≡ b → (length (cond b (render set) []) ≡ 0) × (padded room 0 (cond b (render set) []) ≡ replicate room 0)
+      go : (b : Bool) → eqb (firstRefusal (writeCauses set room)) 0 ≡ b → (length (cond b (render set) []) ≡ 0)
+          × (padded room 0 (cond b (render set) []) ≡ replicate room 0)
       go true e = absurd (h (eqb-true (firstRefusal (writeCauses set room)) 0 e))
       go false e = let z : room - 0 ≡ room = omega arith in (refl, ap (λ n. replicate n 0) z)

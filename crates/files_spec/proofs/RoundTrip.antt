@@ -1,4 +1,5 @@
--- Demand 2: a set written and read again is the same set, and a file read and written again is the same file. Every file with no fault is read, and no other.
+-- Demand 2: a set written and read again is the same set, and a file read and written again is the same file. Every
+-- file with no fault is read, and no other.
 -- Assumes nothing.
 use mathlib.Core.Path.{_≡_, refl, sym, ap, subst, _∙_}
 use mathlib.Core.Logic.{_↔_}
@@ -31,19 +32,26 @@ formed-iff set = (
 )
 
 -- the file of a well-formed set is read to its end, and then judged for duplicates
-file-judged : (text : List ℕ) (set : RuleSet) {d : Bool} → wellFormed set ≡ true → text ≡ render set → hasDuplicates (set .rules) (set .count) ≡ d
+file-judged : (text : List ℕ) (set : RuleSet) {d : Bool} → wellFormed set ≡ true → text ≡ render set
+    → hasDuplicates (set .rules) (set .count) ≡ d
     → reading text ≡ cond d (record { outcome = 4; set = emptySet }) (record { outcome = 0; set = set })
 file-judged text set h e d = at-end text set (ap fileLines (e ∙ sym (append-nil (render set))) ∙ file-back set [] h) d
 
 -- a text that is read to its end is such a file
-to-end : (text : List ℕ) (set : RuleSet) → fileLines text ≡ parsed set [] → (wellFormed set ≡ true) × (text ≡ render set)
+to-end : (text : List ℕ) (set : RuleSet) → fileLines text ≡ parsed set [] → (wellFormed set ≡ true)
+    × (text ≡ render set)
 to-end text set e = let w = file-read text set [] e in (w .0, w .1 ∙ append-nil (render set))
 
 -- ── Outcomes 0 and 4 ─────────────────────────────────────────────────────────────────────────────
 
 -- every file with no fault is read, and no other
-pub accepted-iff : (text : List ℕ) → (reading text .outcome ≡ 0 → Faultless text) × (Faultless text → reading text .outcome ≡ 0)
-accepted-iff text = (λ o. found o (reading-ends text), λ f. let w = formed-iff (f .0) .0 (f .1) in ap (λ r. r .outcome) (file-judged text (f .0) (w .0) (f .2) (w .1)))
+pub accepted-iff : (text : List ℕ) → (reading text .outcome ≡ 0 → Faultless text)
+    × (Faultless text → reading text .outcome ≡ 0)
+accepted-iff text = (
+  λ o. found o (reading-ends text),
+  λ f. let w = formed-iff (f .0) .0 (f .1) in
+      ap (λ r. r .outcome) (file-judged text (f .0) (w .0) (f .2) (w .1)),
+)
   where
     found : reading text .outcome ≡ 0 → Ends text (reading text) → Faultless text
     found o (inLine n e r) = absurd (omega (arith, ap (λ r. r .outcome) r, lines-limits text n e))
@@ -52,8 +60,10 @@ accepted-iff text = (λ o. found o (reading-ends text), λ f. let w = formed-iff
     found o (accepted set e d r) = let w = to-end text set e in (set, formed-iff set .1 (w .0, d), w .1)
 
 -- outcome 4 is given exactly where rules are duplicates and there is no other fault
-pub duplicates-iff : (text : List ℕ) → (reading text .outcome ≡ 4 → OnlyDuplicates text) × (OnlyDuplicates text → reading text .outcome ≡ 4)
-duplicates-iff text = (λ o. found o (reading-ends text), λ f. ap (λ r. r .outcome) (file-judged text (f .0) (f .1) (f .3) (f .2)))
+pub duplicates-iff : (text : List ℕ) → (reading text .outcome ≡ 4 → OnlyDuplicates text)
+    × (OnlyDuplicates text → reading text .outcome ≡ 4)
+duplicates-iff text =
+    (λ o. found o (reading-ends text), λ f. ap (λ r. r .outcome) (file-judged text (f .0) (f .1) (f .3) (f .2)))
   where
     found : reading text .outcome ≡ 4 → Ends text (reading text) → OnlyDuplicates text
     found o (inLine n e r) = absurd (omega (arith, ap (λ r. r .outcome) r, lines-limits text n e))

@@ -1,4 +1,5 @@
--- Laws of texts as they are written: a number by its digits, an entry, a line, and the items of a list, each with the byte that ends it.
+-- Laws of texts as they are written: a number by its digits, an entry, a line, and the items of a list, each with the
+-- byte that ends it.
 -- Assumes nothing.
 use mathlib.Core.Path.{_≡_, refl, sym, ap, subst, _∙_}
 use mathlib.Core.Logic.{_≢_, ⊎-elim}
@@ -30,11 +31,13 @@ unfolding numeral
 numeral-three n h = rw (le-ltb n 10 (omega arith), le-ltb n 100 h)
 
 -- what holds of one, two and three digits holds of a numeral
-pub by-length : (P : List ℕ → Type 0) (n : ℕ) → (n < 10 → P (digit n ∷ [])) → (10 ≤ n → n < 100 → P (digit (n / 10) ∷ digit (n % 10) ∷ []))
+pub by-length : (P : List ℕ → Type 0) (n : ℕ) → (n < 10 → P (digit n ∷ []))
+    → (10 ≤ n → n < 100 → P (digit (n / 10) ∷ digit (n % 10) ∷ []))
     → (100 ≤ n → P (digit (n / 100) ∷ digit (n / 10 % 10) ∷ digit (n % 10) ∷ [])) → P (numeral n)
 by-length P n one two three =
     ⊎-elim (λ h. subst P (sym (numeral-one n h)) (one h))
-    (λ h. ⊎-elim (λ k. subst P (sym (numeral-two n h k)) (two h k)) (λ k. subst P (sym (numeral-three n k)) (three k)) (below? n 100))
+    (λ h. ⊎-elim (λ k. subst P (sym (numeral-two n h k)) (two h k)) (λ k. subst P (sym (numeral-three n k)) (three k))
+    (below? n 100))
     (below? n 10)
 
 -- the text of a constant, and of a variable
@@ -64,13 +67,18 @@ ended itemText [] rest = rest
 ended itemText (e ∷ l) rest = itemText e ++ (endingOf (length l) ∷ ended itemText l rest)
 
 -- that is a comma list and a line feed
-pub ended-commas : (itemText : ℕ → List ℕ) (l rest : List ℕ) → 1 ≤ length l → ended itemText l rest ≡ commaList (map itemText l) ++ (lineFeed ∷ rest)
+pub ended-commas : (itemText : ℕ → List ℕ) (l rest : List ℕ) → 1 ≤ length l
+    → ended itemText l rest ≡ commaList (map itemText l) ++ (lineFeed ∷ rest)
 ended-commas itemText [] rest h = absurd (omega arith)
 ended-commas itemText (e ∷ []) rest h = refl
 ended-commas itemText (e ∷ f ∷ l) rest h =
-    ap (λ r. itemText e ++ (comma ∷ r)) (ended-commas itemText (f ∷ l) rest (omega arith)) ∙ sym (append-assoc (itemText e) (comma ∷ commaList (map itemText (f ∷ l))) (lineFeed ∷ rest))
+    ap (λ r. itemText e ++ (comma ∷ r)) (ended-commas itemText (f ∷ l) rest (omega arith))
+    ∙ sym (append-assoc (itemText e) (comma ∷ commaList (map itemText (f ∷ l))) (lineFeed ∷ rest))
 
 -- a line and what stands after it
-pub line-text : (key : String) (items : List (List ℕ)) (rest : List ℕ) → line key items ++ rest ≡ bytes key ++ (commaList items ++ (lineFeed ∷ rest))
+pub line-text : (key : String) (items : List (List ℕ)) (rest : List ℕ) → line key items ++ rest ≡ bytes key
+    ++ (commaList items ++ (lineFeed ∷ rest))
 unfolding line
-line-text key items rest = append-assoc (bytes key ++ commaList items) (lineFeed ∷ []) rest ∙ append-assoc (bytes key) (commaList items) (lineFeed ∷ rest)
+line-text key items rest =
+    append-assoc (bytes key ++ commaList items) (lineFeed ∷ []) rest
+    ∙ append-assoc (bytes key) (commaList items) (lineFeed ∷ rest)

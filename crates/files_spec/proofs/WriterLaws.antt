@@ -1,4 +1,5 @@
--- The writer's outcome: 7 exactly if the set is not valid, 8 exactly if it is and the buffer is shorter than its file, and 0 else.
+-- The writer's outcome: 7 exactly if the set is not valid, 8 exactly if it is and the buffer is shorter than its file,
+-- and 0 else.
 -- Assumes nothing.
 use mathlib.Core.Path.{_≡_, refl, sym, _∙_}
 use mathlib.Core.Logic.{_↔_}
@@ -46,5 +47,6 @@ module _ (set : RuleSet) (room : ℕ) where
       go : (v : Bool) → valid set ≡ v → (s : Bool) → ltb room (length (render set)) ≡ s
           → (firstRefusal ((7, not v) ∷ (8, s) ∷ []) ≡ 8) ↔ (Valid set × (room < length (render set)))
       go true e true k = (λ z. (valid-iff set .0 e, ltb-true room (length (render set)) k), λ w. refl)
-      go true e false k = (λ z. absurd (omega arith), λ w. absurd (omega (arith, ltb-false room (length (render set)) k)))
+      go true e false k =
+          (λ z. absurd (omega arith), λ w. absurd (omega (arith, ltb-false room (length (render set)) k)))
       go false e s k = (λ z. absurd (omega arith), λ w. absurd (false≢true (sym e ∙ valid-iff set .1 (w .0))))

@@ -16,7 +16,8 @@ use Rattle.model_spec.specs.Validity.{valid, WellFormed, Valid}
 use Rattle.model_spec.specs.declared.RuleSet.{RuleSet}
 use Rattle.model_spec.proofs.ValidityLaws.{valid-iff}
 use Rattle.macros_spec.specs.Composition.{Lines, composed}
-use Rattle.macros_spec.specs.Answers.{sequenceCauses, macroCauses, blankMacro, macroAt, macroWith, macroAnswer, Judged}
+use Rattle.macros_spec.specs.Answers.{sequenceCauses, macroCauses, blankMacro, macroAt, macroWith, macroAnswer}
+use Rattle.macros_spec.specs.Answers.{Judged}
 use Rattle.macros_spec.specs.declared.MacroAnswer.{MacroAnswer}
 use Rattle.macros_spec.proofs.MoveLaws.{no-unknown-iff}
 use Rattle.macros_spec.proofs.MeaningLaws.{admitted-composed}
@@ -40,7 +41,8 @@ module _ (set : RuleSet) (moves : Sequence) where
   worked-long h = rw (lt-ltb 32 (length moves) h)
 
   module _ (few : length moves ≤ 32) where
-    pub worked-unknown : any (λ r. not (within 1 (set .count) r)) moves ≡ true → worked ≡ record { outcome = 13; result = blankMacro }
+    pub worked-unknown : any (λ r. not (within 1 (set .count) r)) moves ≡ true
+        → worked ≡ record { outcome = 13; result = blankMacro }
     worked-unknown e = rw (le-ltb 32 (length moves) few, e)
 
     module _ (formed : WellFormed set) (numbered : any (λ r. not (within 1 (set .count) r)) moves ≡ false) where
@@ -50,7 +52,8 @@ module _ (set : RuleSet) (moves : Sequence) where
       pub worked-denied : composed set moves ≡ none → worked ≡ record { outcome = 17; result = blankMacro }
       worked-denied e = rw (le-ltb 32 (length moves) few, numbered, admits none e)
 
-      pub worked-given : (m : Lines) → composed set moves ≡ some m → worked ≡ record { outcome = 0; result = macroAt (sequenceCost set moves) (some m) }
+      pub worked-given : (m : Lines) → composed set moves ≡ some m
+          → worked ≡ record { outcome = 0; result = macroAt (sequenceCost set moves) (some m) }
       worked-given m e = rw (le-ltb 32 (length moves) few, numbered, admits (some m) e, e)
 
   -- and of any set
@@ -59,7 +62,8 @@ module _ (set : RuleSet) (moves : Sequence) where
     answer-long h = answer-judged isValid ∙ worked-long h
 
     module _ (few : length moves ≤ 32) where
-      answer-unknown : any (λ r. not (within 1 (set .count) r)) moves ≡ true → macroAnswer set moves ≡ record { outcome = 13; result = blankMacro }
+      answer-unknown : any (λ r. not (within 1 (set .count) r)) moves ≡ true
+          → macroAnswer set moves ≡ record { outcome = 13; result = blankMacro }
       answer-unknown e = answer-judged isValid ∙ worked-unknown few e
 
       module _ (numbered : any (λ r. not (within 1 (set .count) r)) moves ≡ false) where
@@ -69,7 +73,8 @@ module _ (set : RuleSet) (moves : Sequence) where
         answer-denied : composed set moves ≡ none → macroAnswer set moves ≡ record { outcome = 17; result = blankMacro }
         answer-denied e = answer-judged isValid ∙ worked-denied few (judged .0 .formed) numbered e
 
-        pub answer-given : (m : Lines) → composed set moves ≡ some m → macroAnswer set moves ≡ record { outcome = 0; result = macroAt (sequenceCost set moves) (some m) }
+        pub answer-given : (m : Lines) → composed set moves ≡ some m
+            → macroAnswer set moves ≡ record { outcome = 0; result = macroAt (sequenceCost set moves) (some m) }
         answer-given m e = answer-judged isValid ∙ worked-given few (judged .0 .formed) numbered m e
 
   -- ── The five answers ───────────────────────────────────────────────────────────────────────────
@@ -78,26 +83,38 @@ module _ (set : RuleSet) (moves : Sequence) where
   pub data Answered : MacroAnswer → Type 0 where
     invalid : (Valid set → ⊥) → Answered (record { outcome = 7; result = blankMacro })
     long : Valid set → 32 < length moves → Answered (record { outcome = 11; result = blankMacro })
-    unknown : Valid set → length moves ≤ 32 → (Numbered (set .count) moves → ⊥) → Answered (record { outcome = 13; result = blankMacro })
+    unknown : Valid set → length moves ≤ 32 → (Numbered (set .count) moves → ⊥)
+        → Answered (record { outcome = 13; result = blankMacro })
     denied : Judged set moves → composed set moves ≡ none → Answered (record { outcome = 17; result = blankMacro })
-    given : Judged set moves → (m : Lines) → composed set moves ≡ some m → Answered (record { outcome = 0; result = macroAt (sequenceCost set moves) (some m) })
+    given : Judged set moves → (m : Lines) → composed set moves ≡ some m
+        → Answered (record { outcome = 0; result = macroAt (sequenceCost set moves) (some m) })
 
   -- the macro call's answer is one of them
   pub answered : Answered (macroAnswer set moves)
   answered = by-validity (valid set) refl
     where
-      by-macro : (isValid : valid set ≡ true) (few : length moves ≤ 32) (numbered : any (λ r. not (within 1 (set .count) r)) moves ≡ false) (o : Option Lines) → composed set moves ≡ o
+      by-macro : (isValid : valid set ≡ true) (few : length moves ≤ 32)
+          (numbered : any (λ r. not (within 1 (set .count) r)) moves ≡ false) (o : Option Lines)
+          → composed set moves ≡ o
           → Answered (macroAnswer set moves)
-      by-macro isValid few numbered none e = rw (answer-denied isValid few numbered e) (denied (judged isValid few numbered) e)
-      by-macro isValid few numbered (some m) e = rw (answer-given isValid few numbered m e) (given (judged isValid few numbered) m e)
+      by-macro isValid few numbered none e =
+          rw (answer-denied isValid few numbered e) (denied (judged isValid few numbered) e)
+      by-macro isValid few numbered (some m) e =
+          rw (answer-given isValid few numbered m e) (given (judged isValid few numbered) m e)
 
-      by-numbers : valid set ≡ true → length moves ≤ 32 → (b : Bool) → any (λ r. not (within 1 (set .count) r)) moves ≡ b → Answered (macroAnswer set moves)
-      by-numbers isValid few true e = rw (answer-unknown isValid few e) (unknown (valid-iff set .0 isValid) few (λ n. not-both e (no-unknown-iff (set .count) moves .1 n)))
+      by-numbers : valid set ≡ true → length moves ≤ 32 → (b : Bool)
+          → any (λ r. not (within 1 (set .count) r)) moves ≡ b → Answered (macroAnswer set moves)
+      by-numbers isValid few true e =
+          rw (answer-unknown isValid few e) (unknown (valid-iff set .0 isValid) few
+          (λ n. not-both e (no-unknown-iff (set .count) moves .1 n)))
       by-numbers isValid few false e = by-macro isValid few e (composed set moves) refl
 
       by-length : valid set ≡ true → (b : Bool) → ltb 32 (length moves) ≡ b → Answered (macroAnswer set moves)
-      by-length isValid true e = let many = ltb-true 32 (length moves) e in rw (answer-long isValid many) (long (valid-iff set .0 isValid) many)
-      by-length isValid false e = by-numbers isValid (ltb-false 32 (length moves) e) (any (λ r. not (within 1 (set .count) r)) moves) refl
+      by-length isValid true e =
+          let many = ltb-true 32 (length moves) e in
+          rw (answer-long isValid many) (long (valid-iff set .0 isValid) many)
+      by-length isValid false e =
+          by-numbers isValid (ltb-false 32 (length moves) e) (any (λ r. not (within 1 (set .count) r)) moves) refl
 
       by-validity : (b : Bool) → valid set ≡ b → Answered (macroAnswer set moves)
       by-validity true e = by-length e (ltb 32 (length moves)) refl

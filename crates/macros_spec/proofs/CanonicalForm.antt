@@ -1,4 +1,5 @@
--- The form of a rule's lines and of a macro's, as equations: a condition leaves itself as it is, and an effect's entries are read in the condition as they are.
+-- The form of a rule's lines and of a macro's, as equations: a condition leaves itself as it is, and an effect's
+-- entries are read in the condition as they are.
 -- Assumes nothing.
 use mathlib.Core.Path.{_≡_}
 use mathlib.Core.List.{List}
@@ -6,7 +7,8 @@ use Prim.Native.Nat.{ℕ, _+_, _-_, _≤_, _<_}
 use lib.ListN.{length, getD}
 use Rattle.model_spec.specs.States.{valuesOf, width}
 
--- an entry may stand at a place of n values: a constant below n, or, where there are two values or more, the variable of a position with as many
+-- an entry may stand at a place of n values: a constant below n, or, where there are two values or more, the variable
+-- of a position with as many
 pub record Fits (positions : ℕ) (sizes : List ℕ) (n e : ℕ) : Type 0 where
   pub constant : e < 16 → e < n
   pub position : 16 ≤ e → e - 16 < positions

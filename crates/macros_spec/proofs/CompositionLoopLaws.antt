@@ -1,4 +1,5 @@
--- The turns of composition's loops: over an array that is filled, over the places of two vectors that are unified, and over the rules of a sequence.
+-- The turns of composition's loops: over an array that is filled, over the places of two vectors that are unified, and
+-- over the rules of a sequence.
 -- Where an invariant says of what is left at i that it decides the whole, the whole is X.
 -- Assumes nothing.
 use mathlib.Core.Path.{_≡_, refl, sym, ap, _∙_}
@@ -17,7 +18,8 @@ use Rattle.model_spec.specs.States.{valueOf, valuesOf}
 use Rattle.model_spec.specs.Rules.{ruleAt}
 use Rattle.model_spec.specs.declared.Rule.{Rule}
 use Rattle.model_spec.specs.declared.RuleSet.{RuleSet}
-use Rattle.macros_spec.specs.Composition.{Lines, replaced, clash, equated, unified, followed, extended, composed, asVectors, linesOf}
+use Rattle.macros_spec.specs.Composition.{Lines, replaced, clash, equated, unified, followed, extended, composed}
+use Rattle.macros_spec.specs.Composition.{asVectors, linesOf}
 use Rattle.macros_spec.specs.declared.Vectors.{Vectors}
 use Rattle.macros_spec.proofs.EquatedLaws.{clash-iff, equated-same}
 use Rattle.macros_spec.proofs.ExtensionLaws.{lines-vectors, composed-extended}
@@ -25,7 +27,8 @@ use Rattle.macros_spec.proofs.ExtensionLaws.{lines-vectors, composed-ex
 -- ── An array that is filled: each place is to hold f of its number, and the first i do ───────────
 
 module _ (f : ℕ → ℕ) (i n : ℕ) (l X : List ℕ) (inv : take i l ++ map f (numbersFrom i (n - i)) ≡ X) where
-  pub fill-go : (v : ℕ) → v ≡ f i → i < n → i < length l → take (i + 1) (set l i v) ++ map f (numbersFrom (i + 1) (n - (i + 1))) ≡ X
+  pub fill-go : (v : ℕ) → v ≡ f i → i < n → i < length l → take (i + 1) (set l i v)
+      ++ map f (numbersFrom (i + 1) (n - (i + 1))) ≡ X
   fill-go v e h hl =
       let left : n - i ≡ suc (n - (i + 1)) = omega arith in
       rw (add-one i, take-suc-set l i v hl, e) (append-snoc (take i l) (f i) _ ∙ sym (rw (left, add-one i)) ∙ inv)
@@ -51,17 +54,27 @@ module _ (asked : List ℕ) (i : ℕ) (m : Lines) (X : Option Lines) (inv : unif
   unfolding unified
   unify-end h = rw (drop-of-length-le asked {i = i} h) at inv
 
-  module _ (h : i < length asked) (have want : ℕ) (eh : have ≡ getD (m .effect) i 0) (ew : want ≡ valueOf (getD asked i 0) (m .effect)) where
+  module _ (h : i < length asked) (have want : ℕ) (eh : have ≡ getD (m .effect) i 0)
+      (ew : want ≡ valueOf (getD asked i 0) (m .effect)) where
     -- where the two agree
     pub unify-same : have ≡ want → unified (drop (i + 1) asked) (i + 1) m ≡ X
     unfolding unified
     unify-same e =
-        rw (add-one i) (sym (rw (drop-cons asked i 0 h, ← eh, ← ew, ← e, clash-same have, equated-same have (m .condition), equated-same have (m .effect))) ∙ inv)
+        rw (add-one i) (sym (rw (
+          drop-cons asked i 0 h,
+          ← eh,
+          ← ew,
+          ← e,
+          clash-same have,
+          equated-same have (m .condition),
+          equated-same have (m .effect),
+        )) ∙ inv)
 
     -- where two constants clash
     pub unify-clash : (from : ℕ) → from ≡ max have want → from < 16 → (have ≡ want → ⊥) → none ≡ X
     unfolding unified
-    unify-clash from ef hf ne = sym (rw (drop-cons asked i 0 h, ← eh, ← ew, clash-constants have want (omega arith) ne)) ∙ inv
+    unify-clash from ef hf ne =
+        sym (rw (drop-cons asked i 0 h, ← eh, ← ew, clash-constants have want (omega arith) ne)) ∙ inv
 
     -- where the larger is replaced by the smaller
     pub unify-go : (from to : ℕ) (condition effect : List ℕ) → from ≡ max have want → to ≡ min have want → 16 ≤ from
@@ -69,7 +82,12 @@ module _ (asked : List ℕ) (i : ℕ) (m : Lines) (X : Option Lines) (inv : unif
         → unified (drop (i + 1) asked) (i + 1) (record { condition = condition; effect = effect }) ≡ X
     unfolding unified equated
     unify-go from to condition effect ef et hf ec ee =
-        rw (add-one i, ec, ee, ef, et) (sym (rw (drop-cons asked i 0 h, ← eh, ← ew, clash-variable have want (omega arith))) ∙ inv)
+        rw (add-one i, ec, ee, ef, et) (sym (rw (
+          drop-cons asked i 0 h,
+          ← eh,
+          ← ew,
+          clash-variable have want (omega arith),
+        )) ∙ inv)
 
 -- ── The vectors as the code keeps them ───────────────────────────────────────────────────────────
 
@@ -106,11 +124,14 @@ module _ (rule : Rule) (v : Vectors) where
 
 -- ── The rules of a sequence, one after another ───────────────────────────────────────────────────
 
-module _ (set : RuleSet) (moves : Sequence) (i : ℕ) (v : Vectors) (inv : v ≡ asVectors (composed set (take i moves))) where
-  pub compose-go : (rule : Rule) (next : Vectors) → rule ≡ ruleAt set (getD moves i 0) → next ≡ asVectors (extended rule (linesOf v)) → i < length moves
+module _ (set : RuleSet) (moves : Sequence) (i : ℕ) (v : Vectors)
+    (inv : v ≡ asVectors (composed set (take i moves))) where
+  pub compose-go : (rule : Rule) (next : Vectors) → rule ≡ ruleAt set (getD moves i 0)
+      → next ≡ asVectors (extended rule (linesOf v)) → i < length moves
       → next ≡ asVectors (composed set (take (i + 1) moves))
   compose-go rule next er en h =
-      rw (add-one i, take-suc moves i 0 h, composed-extended set (take i moves) (getD moves i 0)) (rw (lines-of v (composed set (take i moves)) inv, er) at en)
+      rw (add-one i, take-suc moves i 0 h, composed-extended set (take i moves) (getD moves i 0))
+      (rw (lines-of v (composed set (take i moves)) inv, er) at en)
 
   pub compose-end : length moves ≤ i → v ≡ asVectors (composed set moves)
   compose-end h = inv ∙ ap (λ (q : Sequence). asVectors (composed set q)) (take-all i moves h)

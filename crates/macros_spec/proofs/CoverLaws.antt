@@ -1,4 +1,5 @@
--- Redundancy decided on vectors agrees with redundancy over all states: a's rules run in turn on b's condition, as on a state of entries, and end in b's effect,
+-- Redundancy decided on vectors agrees with redundancy over all states: a's rules run in turn on b's condition, as on a
+-- state of entries, and end in b's effect,
 -- exactly if from each state that admits b they lead where b leads.
 -- Assumes nothing.
 use mathlib.Core.Path.{_≡_, refl, sym, ap, _∙_, subst}
@@ -34,7 +35,8 @@ use Rattle.macros_spec.proofs.VectorMeaningLaws.{mean-vectors}
 -- ── Runs on vectors ──────────────────────────────────────────────────────────────────────────────
 
 -- what runs on a vector runs wherever the vector is read
-run-read : (set : RuleSet) (a : Sequence) (v w : List ℕ) → runIn set a v ≡ some w → (s : State) → runIn set a (valuesOf v s) ≡ some (valuesOf w s)
+run-read : (set : RuleSet) (a : Sequence) (v w : List ℕ) → runIn set a v ≡ some w → (s : State)
+    → runIn set a (valuesOf v s) ≡ some (valuesOf w s)
 unfolding runIn
 run-read set [] v w e s = ap {B = Option State} (λ (l : List ℕ). some (valuesOf l s)) (Option·some-injective v w e)
 run-read set (r ∷ a) v w e s =
@@ -46,10 +48,13 @@ run-read set (r ∷ a) v w e s =
       ap (runIn set a) (sym (values-values effect v s)) ∙ run-read set a (valuesOf effect v) w (h .1) s,
     )
 
-module _ (set : RuleSet) (valid : WellFormed set) (condition effect : List ℕ) (form : Canonical (set .positions) (set .sizes) condition effect) where
+module _ (set : RuleSet) (valid : WellFormed set) (condition effect : List ℕ)
+    (form : Canonical (set .positions) (set .sizes) condition effect) where
   -- what runs from v to w wherever they are read in a state that meets the condition, runs on v itself
-  run-back : (a : Sequence) → Numbered (set .count) a → (v w : List ℕ) → length v ≡ 16 → length w ≡ 16 → valuesOf v condition ≡ v → valuesOf w condition ≡ w
-      → ((s : State) → StateOf set s → valuesOf condition s ≡ s → runIn set a (valuesOf v s) ≡ some (valuesOf w s)) → runIn set a v ≡ some w
+  run-back : (a : Sequence) → Numbered (set .count) a → (v w : List ℕ) → length v ≡ 16 → length w ≡ 16
+      → valuesOf v condition ≡ v → valuesOf w condition ≡ w
+      → ((s : State) → StateOf set s → valuesOf condition s ≡ s → runIn set a (valuesOf v s) ≡ some (valuesOf w s))
+      → runIn set a v ≡ some w
   unfolding runIn
   run-back [] _ v w lv lw kv kw h =
       ap {B = Option State} some
@@ -61,12 +66,14 @@ module _ (set : RuleSet) (valid : WellFormed set) (condition effect : List ℕ) 
       run-first-iff set r a v w .1 (
         values-equal (set .positions) (set .sizes) condition effect form (ruleAt set r .condition) v v
             (lines .conditionLength ∙ sym lv) kv kv (λ s d m. first s (h s d m) .0),
-        run-back a (n .2) (valuesOf e v) w (values-length e v ∙ lines .effectLength) lw (values-values e v condition ∙ ap (valuesOf e) kv) kw
+        run-back a (n .2) (valuesOf e v) w (values-length e v ∙ lines .effectLength) lw
+            (values-values e v condition ∙ ap (valuesOf e) kv) kw
             (λ s d m. ap (runIn set a) (values-values e v s) ∙ first s (h s d m) .1),
       )
     where
       first : (s : State) → runIn set (r ∷ a) (valuesOf v s) ≡ some (valuesOf w s)
-          → (valuesOf (ruleAt set r .condition) (valuesOf v s) ≡ valuesOf v s) × (runIn set a (valuesOf (ruleAt set r .effect) (valuesOf v s)) ≡ some (valuesOf w s))
+          → (valuesOf (ruleAt set r .condition) (valuesOf v s) ≡ valuesOf v s)
+          × (runIn set a (valuesOf (ruleAt set r .effect) (valuesOf v s)) ≡ some (valuesOf w s))
       first s = run-first-iff set r a (valuesOf v s) (valuesOf w s) .0
 
 -- ── The test ─────────────────────────────────────────────────────────────────────────────────────
@@ -74,36 +81,46 @@ module _ (set : RuleSet) (valid : WellFormed set) (condition effect : List ℕ) 
 -- a run ends in the effect
 ends-iff : (o : Option State) (effect : List ℕ) → (endsIn o effect ≡ true) ↔ (o ≡ some effect)
 ends-iff none effect = (λ e. absurd (false≢true e), λ e. absurd (Option·none-ne-some effect e))
-ends-iff (some t) effect =
-    (λ e. ap {B = Option State} some (same-iff t effect .0 e), λ e. same-iff t effect .1 (Option·some-injective t effect e))
+ends-iff (some t) effect = (
+  λ e. ap {B = Option State} some (same-iff t effect .0 e),
+  λ e. same-iff t effect .1 (Option·some-injective t effect e),
+)
 
 -- the test that each is the number of one of the set's rules passes
-pub numbered-passes : (set : RuleSet) → WellFormed set → (a : Sequence) → Numbered (set .count) a → every (within 1 (lastNumber set)) a ≡ true
+pub numbered-passes : (set : RuleSet) → WellFormed set → (a : Sequence) → Numbered (set .count) a
+    → every (within 1 (lastNumber set)) a ≡ true
 numbered-passes set valid a h =
     let last = lastNumber set in
     let k = valid .countLimits .1 in
     let e : set .count ≡ last = omega arith in
     numbered-iff last a .1 (subst (λ n. Numbered n a) e h)
 
-module _ (set : RuleSet) (valid : WellFormed set) (b a : Sequence) (nb : Numbered (set .count) b) (na : Numbered (set .count) a) where
+module _ (set : RuleSet) (valid : WellFormed set) (b a : Sequence) (nb : Numbered (set .count) b)
+    (na : Numbered (set .count) a) where
   -- from each state that admits b, a leads where b leads
-  covers-iff : (covers set a (composed set b) ≡ true) ↔ ((s t : State) → StateOf set s → runIn set b s ≡ some t → runIn set a s ≡ some t)
+  covers-iff : (covers set a (composed set b) ≡ true)
+      ↔ ((s t : State) → StateOf set s → runIn set b s ≡ some t → runIn set a s ≡ some t)
   unfolding covers successor
   covers-iff = go (composed set b) refl
     where
-      go : (o : Option Lines) → composed set b ≡ o → (covers set a o ≡ true) ↔ ((s t : State) → StateOf set s → runIn set b s ≡ some t → runIn set a s ≡ some t)
-      go none e = (λ _ s t d h. absurd (Option·none-ne-some t (sym (denied-iff set valid b nb .0 e s d) ∙ h)), λ _. refl)
+      go : (o : Option Lines) → composed set b ≡ o → (covers set a o ≡ true)
+          ↔ ((s t : State) → StateOf set s → runIn set b s ≡ some t → runIn set a s ≡ some t)
+      go none e =
+          (λ _ s t d h. absurd (Option·none-ne-some t (sym (denied-iff set valid b nb .0 e s d) ∙ h)), λ _. refl)
       go (some m) e = (
         λ h s t d k.
             let met = applicable-iff (m .condition) s .0 (means .runsWhere s d .1 (t, k)) in
-            ap (runIn set a) (sym met) ∙ run-read set a (m .condition) (m .effect) (ends-iff (runIn set a (m .condition)) (m .effect) .0 h) s
+            ap (runIn set a) (sym met) ∙ run-read set a (m .condition) (m .effect)
+            (ends-iff (runIn set a (m .condition)) (m .effect) .0 h) s
             ∙ ap {B = Option State} some (means .leadsTo s t d k),
         λ h.
             ends-iff (runIn set a (m .condition)) (m .effect) .1
-            (run-back set valid (m .condition) (m .effect) form a na (m .condition) (m .effect) (form .conditionLength) (form .effectLength) (form .keepsItself) (form .keepsEffect)
+            (run-back set valid (m .condition) (m .effect) form a na (m .condition) (m .effect) (form .conditionLength)
+            (form .effectLength) (form .keepsItself) (form .keepsEffect)
             (λ s d met.
             let w = means .runsWhere s d .0 (applicable-iff (m .condition) s .1 met) in
-            ap (runIn set a) met ∙ h s (w .0) d (w .1) ∙ ap {B = Option State} some (sym (means .leadsTo s (w .0) d (w .1))))),
+            ap (runIn set a) met ∙ h s (w .0) d (w .1) ∙ ap {B =
+            Option State} some (sym (means .leadsTo s (w .0) d (w .1))))),
       )
         where
           form : Canonical (set .positions) (set .sizes) (m .condition) (m .effect)
@@ -113,14 +130,17 @@ module _ (set : RuleSet) (valid : WellFormed set) (b a : Sequence) (nb : Numbere
           means = composed-means set valid b nb m e
 
   -- the test on vectors passes exactly if b is redundant with a over all states
-  pub redundant-by-lines-iff : (redundantByLines set (composed set b) (sequenceCost set b) a ≡ true) ↔ RedundantIn set b a
+  pub redundant-by-lines-iff : (redundantByLines set (composed set b) (sequenceCost set b) a ≡ true)
+      ↔ RedundantIn set b a
   unfolding redundantByLines runIn sequenceCost
-  redundant-by-lines-iff = rw (numbered-passes set valid a na) (and-iff _ _ (leb-iff (sequenceCost set a) (sequenceCost set b)) covers-iff)
+  redundant-by-lines-iff =
+      rw (numbered-passes set valid a na) (and-iff _ _ (leb-iff (sequenceCost set a) (sequenceCost set b)) covers-iff)
 
   -- so it is the test over all states
   pub redundant-by-lines : redundantByLines set (composed set b) (sequenceCost set b) a ≡ redundant set b a
   redundant-by-lines =
-      same-test (redundantByLines set (composed set b) (sequenceCost set b) a) (redundant set b a) (λ e. redundant-iff set b a .1 (redundant-by-lines-iff .0 e))
+      same-test (redundantByLines set (composed set b) (sequenceCost set b) a) (redundant set b a)
+      (λ e. redundant-iff set b a .1 (redundant-by-lines-iff .0 e))
       (λ e. redundant-by-lines-iff .1 (redundant-iff set b a .0 e))
 
 -- so the test tells of vectors that mean a sequence, and of its cost, as the code keeps them

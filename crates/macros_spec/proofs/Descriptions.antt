@@ -1,4 +1,5 @@
--- What a macro's vectors say: from which states they lead, and where to; and that they describe a relation between states.
+-- What a macro's vectors say: from which states they lead, and where to; and that they describe a relation between
+-- states.
 -- Assumes nothing.
 use mathlib.Core.Path.{_≡_}
 use mathlib.Core.Logic.{_↔_}
@@ -25,6 +26,8 @@ pub record Describes (positions : ℕ) (sizes : List ℕ) (R : State → State �
   pub leads : (s t : State) → Leads o s t ↔ R s t
 
 -- the same of another relation that holds exactly where R does
-pub describes-as : {positions : ℕ} {sizes : List ℕ} {R Q : State → State → Type 0} {o : Option Lines} → Describes positions sizes R o → ((s t : State) → R s t ↔ Q s t)
+pub describes-as : {positions : ℕ} {sizes : List ℕ} {R Q : State → State → Type 0} {o : Option Lines}
+    → Describes positions sizes R o → ((s t : State) → R s t ↔ Q s t)
     → Describes positions sizes Q o
-describes-as d i = record { form = d .form; leads = λ s t. (λ h. i s t .0 (d .leads s t .0 h), λ h. d .leads s t .1 (i s t .1 h)) }
+describes-as d i =
+    record { form = d .form; leads = λ s t. (λ h. i s t .0 (d .leads s t .0 h), λ h. d .leads s t .1 (i s t .1 h)) }

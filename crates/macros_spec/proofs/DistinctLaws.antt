@@ -1,4 +1,5 @@
--- States tell entries apart, for a variable stands only where there are two values or more: vectors that stand for the same in every state that meets a condition
+-- States tell entries apart, for a variable stands only where there are two values or more: vectors that stand for the
+-- same in every state that meets a condition
 -- in canonical form are equal.
 -- And some state meets such a condition.
 -- Assumes nothing.
@@ -41,7 +42,8 @@ none-small : Small []
 none-small j = omega arith
 
 one-small : (k : ℕ) → Small (oneAt k)
-one-small k j = ⊎-elim (λ (e : j ≡ k). rw e (omega (arith, one-at k))) (λ d. omega (arith, zero-elsewhere k j d)) (equal? j k)
+one-small k j =
+    ⊎-elim (λ (e : j ≡ k). rw e (omega (arith, one-at k))) (λ d. omega (arith, zero-elsewhere k j d)) (equal? j k)
 
 -- ── States that meet a condition in canonical form ───────────────────────────────────────────────
 
@@ -51,7 +53,10 @@ module _ (positions : ℕ) (sizes condition effect : List ℕ) (form : Canonical
   meets t = sym (values-values condition condition t) ∙ ap (λ (l : List ℕ). valuesOf l t) (form .keepsItself)
 
   is-state : (t : List ℕ) → Small t → IsState positions sizes (valuesOf condition t)
-  is-state t small = (values-length condition t ∙ form .conditionLength, λ i h. rw (values-at condition t i) (below i (getD condition i 0) (form .conditionFits i)))
+  is-state t small = (
+    values-length condition t ∙ form .conditionLength,
+    λ i h. rw (values-at condition t i) (below i (getD condition i 0) (form .conditionFits i)),
+  )
     where
       below : (i e : ℕ) → Fits positions sizes (width positions sizes i) e → valueOf e t < width positions sizes i
       below i e f =
@@ -78,7 +83,8 @@ module _ (positions : ℕ) (sizes condition effect : List ℕ) (form : Canonical
 
   -- so they do in small values
   alike-small : (x y : ℕ) → Kept x → Kept y → Alike x y → (t : List ℕ) → Small t → valueOf x t ≡ valueOf y t
-  alike-small x y kx ky h t small = sym (reads x kx) ∙ h (valuesOf condition t) (is-state t small) (meets t) ∙ reads y ky
+  alike-small x y kx ky h t small =
+      sym (reads x kx) ∙ h (valuesOf condition t) (is-state t small) (meets t) ∙ reads y ky
     where
       reads : (e : ℕ) → Kept e → valueOf e (valuesOf condition t) ≡ valueOf e t
       reads e k = value-values e condition t ∙ ap (λ z. valueOf z t) k
@@ -92,21 +98,31 @@ module _ (positions : ℕ) (sizes condition effect : List ℕ) (form : Canonical
       let px = own-place x kx hx in
       let one : valueOf x t ≡ 1 = value-place x t hx ∙ ap (λ i. getD t i 0) px ∙ one-at (x - 16) in
       ⊎-elim (λ c. omega (arith, value-place x [] hx, value-constant y [] c, value-constant y t c))
-      (λ c. let py = own-place y ky c in omega (arith, value-place y t c, zero-elsewhere (x - 16) (y % 16) (λ e. d (omega arith))))
+      (λ c. let py = own-place y ky c in omega (
+        arith,
+        value-place y t c,
+        zero-elsewhere (x - 16) (y % 16) (λ e. d (omega arith)),
+      ))
       (below? y 16)
 
   entries-equal : (x y : ℕ) → Kept x → Kept y → Alike x y → x ≡ y
   entries-equal x y kx ky h =
       ⊎-elim (λ e. e)
       (λ d.
-      ⊎-elim (λ cx. ⊎-elim (λ cy. omega (arith, alike-small x y kx ky h [] none-small, value-constant x [] cx, value-constant y [] cy))
+      ⊎-elim (λ cx. ⊎-elim (λ cy. omega (
+        arith,
+        alike-small x y kx ky h [] none-small,
+        value-constant x [] cx,
+        value-constant y [] cy,
+      ))
       (λ cy. absurd (variable-apart y x ky kx cy (λ e. d (sym e)) (λ s v m. sym (h s v m)))) (below? y 16))
       (λ cx. absurd (variable-apart x y kx ky cx d h)) (below? x 16))
       (equal? x y)
 
   pub vectors-equal : (v w : List ℕ) → length v ≡ length w → valuesOf v condition ≡ v → valuesOf w condition ≡ w
       → ((s : State) → IsState positions sizes s → valuesOf condition s ≡ s → valuesOf v s ≡ valuesOf w s) → v ≡ w
-  vectors-equal v w n kv kw h = ext-getD 0 v w n (λ i _. entries-equal (getD v i 0) (getD w i 0) (kept v kv i) (kept w kw i) (alike i))
+  vectors-equal v w n kv kw h =
+      ext-getD 0 v w n (λ i _. entries-equal (getD v i 0) (getD w i 0) (kept v kv i) (kept w kw i) (alike i))
     where
       kept : (l : List ℕ) → valuesOf l condition ≡ l → (i : ℕ) → Kept (getD l i 0)
       kept l k i = value-at l condition l i k
@@ -116,6 +132,8 @@ module _ (positions : ℕ) (sizes condition effect : List ℕ) (form : Canonical
 
   -- p, read in v, is w where in every such state it leads from v to w
   pub values-equal : (p v w : List ℕ) → length p ≡ length w → valuesOf v condition ≡ v → valuesOf w condition ≡ w
-      → ((s : State) → IsState positions sizes s → valuesOf condition s ≡ s → valuesOf p (valuesOf v s) ≡ valuesOf w s) → valuesOf p v ≡ w
+      → ((s : State) → IsState positions sizes s → valuesOf condition s ≡ s → valuesOf p (valuesOf v s) ≡ valuesOf w s)
+      → valuesOf p v ≡ w
   values-equal p v w n kv kw h =
-      vectors-equal (valuesOf p v) w (values-length p v ∙ n) (values-values p v condition ∙ ap (valuesOf p) kv) kw (λ s d m. values-values p v s ∙ h s d m)
+      vectors-equal (valuesOf p v) w (values-length p v ∙ n) (values-values p v condition ∙ ap (valuesOf p) kv) kw
+      (λ s d m. values-values p v s ∙ h s d m)

@@ -1,4 +1,5 @@
--- The empty sequence's vectors: each position's variable in its own place, 0 beyond. In every state they stand for that state,
+-- The empty sequence's vectors: each position's variable in its own place, 0 beyond. In every state they stand for that
+-- state,
 -- and they are canonical where each position has two values or more.
 -- Assumes nothing.
 use mathlib.Core.Path.{_≡_, refl, sym, ap, _∙_}
@@ -13,7 +14,8 @@ use lib.Dec.{ltb}
 use borrow.Author.Tests.{lt-ltb, le-ltb}
 use Rattle.theory_spec.proofs.TestLaws.{below?}
 use Rattle.model_spec.specs.States.{State, valueOf, valuesOf, width, IsState}
-use Rattle.model_spec.proofs.StateLaws.{at-places, width-beyond, value-constant, value-variable, values-at, values-length}
+use Rattle.model_spec.proofs.StateLaws.{at-places, width-beyond, value-constant, value-variable, values-at}
+use Rattle.model_spec.proofs.StateLaws.{values-length}
 use Rattle.macros_spec.specs.Composition.{ownVariables}
 use Rattle.macros_spec.proofs.CanonicalForm.{Fitting, Canonical}
 
@@ -31,22 +33,27 @@ module _ (positions : ℕ) (few : positions ≤ 16) where
 
   own-beyond : (i : ℕ) → positions ≤ i → getD (ownVariables positions) i 0 ≡ 0
   own-beyond i h =
-      ⊎-elim (λ q. own-at i q ∙ rw (le-ltb i positions h)) (λ q. List·getD-eq-default (ownVariables positions) 0 {n = i} (omega (arith, own-length))) (below? i 16)
+      ⊎-elim (λ q. own-at i q ∙ rw (le-ltb i positions h))
+      (λ q. List·getD-eq-default (ownVariables positions) 0 {n = i} (omega (arith, own-length))) (below? i 16)
 
   -- a vector with 0 beyond the positions is read as it is
-  own-kept : (s : List ℕ) → length s ≡ 16 → ((i : ℕ) → positions ≤ i → getD s i 0 ≡ 0) → valuesOf (ownVariables positions) s ≡ s
+  own-kept : (s : List ℕ) → length s ≡ 16 → ((i : ℕ) → positions ≤ i → getD s i 0 ≡ 0)
+      → valuesOf (ownVariables positions) s ≡ s
   own-kept s n z =
       ext-getD 0 (valuesOf (ownVariables positions) s) s (values-length (ownVariables positions) s ∙ own-length ∙ sym n)
       (λ i h.
       values-at (ownVariables positions) s i
       ∙ ⊎-elim
-      (λ q. ap (λ e. valueOf e s) (own-position i q) ∙ value-variable (16 + i) s (omega arith) (omega arith) ∙ ap (λ j. getD s j 0) (omega arith))
-      (λ q. ap (λ e. valueOf e s) (own-beyond i q) ∙ value-constant 0 s (omega arith) ∙ sym (z i q)) (below? i positions))
+      (λ q. ap (λ e. valueOf e s) (own-position i q) ∙ value-variable (16 + i) s (omega arith) (omega arith)
+      ∙ ap (λ j. getD s j 0) (omega arith))
+      (λ q. ap (λ e. valueOf e s) (own-beyond i q) ∙ value-constant 0 s (omega arith) ∙ sym (z i q))
+      (below? i positions))
 
   pub own-state : (sizes : List ℕ) (s : State) → IsState positions sizes s → valuesOf (ownVariables positions) s ≡ s
   own-state sizes s d =
       own-kept s (d .0)
-      (λ i p. ⊎-elim (λ k. omega (arith, d .1 i k, width-beyond positions sizes i p)) (λ k. List·getD-eq-default s 0 {n = i} (omega arith)) (below? i 16))
+      (λ i p. ⊎-elim (λ k. omega (arith, d .1 i k, width-beyond positions sizes i p))
+      (λ k. List·getD-eq-default s 0 {n = i} (omega arith)) (below? i 16))
 
   module _ (sizes : List ℕ) (wide : (i : ℕ) → i < positions → 2 ≤ width positions sizes i) where
     own-fits : Fitting positions sizes (ownVariables positions)
@@ -54,7 +61,13 @@ module _ (positions : ℕ) (few : positions ≤ 16) where
         ⊎-elim
         (λ q.
         rw (own-position i q)
-        (record { constant = λ h. absurd (omega arith); position = λ h. omega arith; equalSizes = λ h. ap (width positions sizes) (omega arith); used = λ h. wide i q }))
+        (record {
+          constant = λ h. absurd (omega arith);
+          position = λ h. omega arith;
+          equalSizes =
+              λ h. ap (width positions sizes) (omega arith);
+          used = λ h. wide i q;
+        }))
         (λ q.
         rw (own-beyond i q)
         (record {
@@ -72,7 +85,9 @@ module _ (positions : ℕ) (few : positions ≤ 16) where
           conditionLength = own-length;
           effectLength = own-length;
           keepsItself = kept;
-          notLater = λ i. ⊎-elim (λ q. omega (arith, own-position i q)) (λ q. omega (arith, own-beyond i q)) (below? i positions);
+          notLater =
+              λ i. ⊎-elim (λ q. omega (arith, own-position i q)) (λ q. omega (arith, own-beyond i q))
+              (below? i positions);
           keepsEffect = kept;
           conditionFits = own-fits;
           effectFits = own-fits;

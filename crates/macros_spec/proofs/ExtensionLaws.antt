@@ -15,7 +15,8 @@ lines-vectors none = refl
 lines-vectors (some m) = refl
 
 module _ (set : RuleSet) where
-  composedFrom-extended : (q : Sequence) (r : ℕ) (m : Option Lines) → composedFrom set (q ++ r ∷ []) m ≡ extended (ruleAt set r) (composedFrom set q m)
+  composedFrom-extended : (q : Sequence) (r : ℕ) (m : Option Lines)
+      → composedFrom set (q ++ r ∷ []) m ≡ extended (ruleAt set r) (composedFrom set q m)
   unfolding composedFrom
   composedFrom-extended [] r m = refl
   composedFrom-extended (first ∷ q) r m = composedFrom-extended q r (extended (ruleAt set first) m)

@@ -18,10 +18,12 @@ module _ (positions : ℕ) (sizes condition : List ℕ) (few : positions ≤ 16)
   -- a valid entry is read in the condition as it is
   entry-kept : (i e : ℕ) → EntryValid positions sizes condition i e → valueOf e condition ≡ e
   entry-kept i e v =
-      ⊎-elim (value-constant e condition) (λ h. let k = v .position h in value-variable e condition h (omega arith) ∙ v .itself h) (below? e 16)
+      ⊎-elim (value-constant e condition) (λ h. let k = v .position h in value-variable e condition h (omega arith)
+      ∙ v .itself h) (below? e 16)
 
   -- an entry that fits and is read in the condition as it is, is valid
-  entries-valid : (line : List ℕ) → Fitting positions sizes line → valuesOf line condition ≡ line → (i : ℕ) → i < 16 → EntryValid positions sizes condition i (getD line i 0)
+  entries-valid : (line : List ℕ) → Fitting positions sizes line → valuesOf line condition ≡ line → (i : ℕ) → i < 16
+      → EntryValid positions sizes condition i (getD line i 0)
   entries-valid line f k i h = record {
     constant = f i .constant;
     position = f i .position;
@@ -32,10 +34,12 @@ module _ (positions : ℕ) (sizes condition : List ℕ) (few : positions ≤ 16)
   }
 
   module _ (line : List ℕ) (long : length line ≡ 16) where
-    line-kept : ((i : ℕ) → i < 16 → EntryValid positions sizes condition i (getD line i 0)) → valuesOf line condition ≡ line
+    line-kept : ((i : ℕ) → i < 16 → EntryValid positions sizes condition i (getD line i 0))
+        → valuesOf line condition ≡ line
     line-kept v =
         let n = values-length line condition in
-        ext-getD 0 (valuesOf line condition) line n (λ i h. values-at line condition i ∙ entry-kept i (getD line i 0) (v i (omega arith)))
+        ext-getD 0 (valuesOf line condition) line n
+        (λ i h. values-at line condition i ∙ entry-kept i (getD line i 0) (v i (omega arith)))
 
     -- beyond the sixteen places a line reads 0, the one value there
     line-fits : ((i : ℕ) → i < positions → 2 ≤ width positions sizes i)
@@ -61,12 +65,14 @@ module _ (positions : ℕ) (sizes condition : List ℕ) (few : positions ≤ 16)
             }
 
 -- a variable is not later than its place
-not-later : (condition : List ℕ) → length condition ≡ 16 → ((i : ℕ) → i < 16 → 16 ≤ getD condition i 0 → getD condition i 0 - 16 ≤ i) → (i : ℕ) → getD condition i 0 ≤ 16 + i
+not-later : (condition : List ℕ) → length condition ≡ 16
+    → ((i : ℕ) → i < 16 → 16 ≤ getD condition i 0 → getD condition i 0 - 16 ≤ i) → (i : ℕ) → getD condition i 0 ≤ 16 + i
 not-later condition long h i =
     ⊎-elim (λ k. ⊎-elim (λ c. omega arith) (λ c. omega (arith, h i k c)) (below? (getD condition i 0) 16))
     (λ k. omega (arith, List·getD-eq-default condition 0 {n = i} (omega arith))) (below? i 16)
 
-pub canonical-iff : (positions : ℕ) (sizes condition effect : List ℕ) → positions ≤ 16 → (wide : (i : ℕ) → i < positions → 2 ≤ width positions sizes i)
+pub canonical-iff : (positions : ℕ) (sizes condition effect : List ℕ) → positions ≤ 16
+    → (wide : (i : ℕ) → i < positions → 2 ≤ width positions sizes i)
     → LinesValid positions sizes condition effect ↔ Canonical positions sizes condition effect
 canonical-iff positions sizes condition effect few wide = (
   λ v. record {

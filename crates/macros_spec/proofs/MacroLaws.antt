@@ -1,6 +1,8 @@
--- What the macro call's answer means: it gives a macro exactly if some state admits the sequence, and then the one macro that means what the sequence's rules do in turn;
+-- What the macro call's answer means: it gives a macro exactly if some state admits the sequence, and then the one
+-- macro that means what the sequence's rules do in turn;
 -- it is refused by 7, 11 or 13 exactly where that cause is the first.
--- And what document 01 says of the macro besides: what it costs at most, that its unused places are 0, and which one the empty sequence has.
+-- And what document 01 says of the macro besides: what it costs at most, that its unused places are 0, and which one
+-- the empty sequence has.
 -- Assumes nothing.
 use mathlib.Core.Path.{_≡_, refl, sym, ap, _∙_, subst}
 use mathlib.Core.Logic.{_↔_, _≢_, ⊎-elim}
@@ -23,7 +25,8 @@ use Rattle.macros_spec.specs.declared.MacroAnswer.{MacroAnswer}
 use Rattle.macros_spec.proofs.CanonicalForm.{Fitting}
 use Rattle.macros_spec.proofs.MeaningLaws.{means-canonical, means-admitted, composed-means, denied-iff}
 use Rattle.macros_spec.proofs.UniqueLaws.{means-unique}
-use Rattle.macros_spec.proofs.AnswerLaws.{Answered, invalid, long, unknown, denied, given, answered, answer-given}
+use Rattle.macros_spec.proofs.AnswerLaws.{Answered, invalid, long, unknown, denied, given, answered}
+use Rattle.macros_spec.proofs.AnswerLaws.{answer-given}
 
 module _ (set : RuleSet) (moves : Sequence) where
   -- ── What each number means ─────────────────────────────────────────────────────────────────────
@@ -51,10 +54,12 @@ module _ (set : RuleSet) (moves : Sequence) where
       go (given j m e) = (λ e. absurd (omega arith), λ w. absurd (omega arith))
 
   -- by 13 exactly if it is valid, there are at most 32 moves, and one of them is no rule's number
-  pub macro-unknown-iff : (macroAnswer set moves .outcome ≡ 13) ↔ (Valid set × ((length moves ≤ 32) × (Numbered (set .count) moves → ⊥)))
+  pub macro-unknown-iff : (macroAnswer set moves .outcome ≡ 13)
+      ↔ (Valid set × ((length moves ≤ 32) × (Numbered (set .count) moves → ⊥)))
   macro-unknown-iff = go (answered set moves)
     where
-      go : {a : MacroAnswer} → Answered set moves a → (a .outcome ≡ 13) ↔ (Valid set × ((length moves ≤ 32) × (Numbered (set .count) moves → ⊥)))
+      go : {a : MacroAnswer} → Answered set moves a → (a .outcome ≡ 13)
+          ↔ (Valid set × ((length moves ≤ 32) × (Numbered (set .count) moves → ⊥)))
       go (invalid n) = (λ e. absurd (omega arith), λ w. absurd (n (w .0)))
       go (long v h) = (λ e. absurd (omega arith), λ w. absurd (omega arith))
       go (unknown v h n) = (λ _. (v, (h, n)), λ _. refl)
@@ -73,7 +78,11 @@ module _ (set : RuleSet) (moves : Sequence) where
       go (long v h) = (λ e. absurd (omega arith), λ w. absurd (omega arith))
       go (unknown v h n) = (λ e. absurd (omega arith), λ w. absurd (n (w .0 .1 .1)))
       go (denied j e) = (λ _. (j, denied-iff set (j .0 .formed) moves (j .1 .1) .0 e), λ _. refl)
-      go (given j m e) = (λ e. absurd (omega arith), λ w. absurd (not-denied (means-admitted set (j .0 .formed) moves _ (composed-means set (j .0 .formed) moves (j .1 .1) m e)) (w .1)))
+      go (given j m e) = (
+        λ e. absurd (omega arith),
+        λ w. absurd (not-denied
+            (means-admitted set (j .0 .formed) moves _ (composed-means set (j .0 .formed) moves (j .1 .1) m e)) (w .1)),
+      )
 
   -- and not refused exactly if some state does
   pub macro-given-iff : (macroAnswer set moves .outcome ≡ 0) ↔ (Judged set moves × Admitted set moves)
@@ -83,8 +92,15 @@ module _ (set : RuleSet) (moves : Sequence) where
       go (invalid n) = (λ e. absurd (omega arith), λ w. absurd (n (w .0 .0)))
       go (long v h) = (λ e. absurd (omega arith), λ w. absurd (omega arith))
       go (unknown v h n) = (λ e. absurd (omega arith), λ w. absurd (n (w .0 .1 .1)))
-      go (denied j e) = (λ e. absurd (omega arith), λ w. absurd (not-denied (w .1) (denied-iff set (j .0 .formed) moves (j .1 .1) .0 e)))
-      go (given j m e) = (λ _. (j, means-admitted set (j .0 .formed) moves _ (composed-means set (j .0 .formed) moves (j .1 .1) m e)), λ _. refl)
+      go (denied j e) = (
+        λ e. absurd (omega arith),
+        λ w. absurd (not-denied (w .1)
+            (denied-iff set (j .0 .formed) moves (j .1 .1) .0 e)),
+      )
+      go (given j m e) = (
+        λ _. (j, means-admitted set (j .0 .formed) moves _ (composed-means set (j .0 .formed) moves (j .1 .1) m e)),
+        λ _. refl,
+      )
 
   -- ── What the macro is ──────────────────────────────────────────────────────────────────────────
 
@@ -99,7 +115,8 @@ module _ (set : RuleSet) (moves : Sequence) where
       go (given j m e) z = composed-means set (j .0 .formed) moves (j .1 .1) m e
 
   -- the macro is the one with the meaning
-  pub macro-iff : (m : Macro) → (macroAnswer set moves ≡ record { outcome = 0; result = m }) ↔ (Judged set moves × Means set moves m)
+  pub macro-iff : (m : Macro) → (macroAnswer set moves ≡ record { outcome = 0; result = m })
+      ↔ (Judged set moves × Means set moves m)
   macro-iff m = (to, from)
     where
       to : macroAnswer set moves ≡ record { outcome = 0; result = m } → Judged set moves × Means set moves m
@@ -110,7 +127,8 @@ module _ (set : RuleSet) (moves : Sequence) where
       from : Judged set moves × Means set moves m → macroAnswer set moves ≡ record { outcome = 0; result = m }
       from w =
           let z = macro-given-iff .1 (w .0, means-admitted set (w .0 .0 .formed) moves m (w .1)) in
-          let same = means-unique set (w .0 .0 .formed) moves (macroAnswer set moves .result) m (macro-means z) (w .1) in
+          let same = means-unique set (w .0 .0 .formed) moves (macroAnswer set moves .result) m (macro-means z)
+          (w .1) in
           λ i. record { outcome = z i; result = same i }
 
   -- a macro costs at most 8,160: at most 32 rules, each at most 255
@@ -154,16 +172,27 @@ module _ (set : RuleSet) (isValid : Valid set) where
   zero-beyond : (v : List ℕ) → Fitting (set .positions) (set .sizes) v → (i : ℕ) → set .positions ≤ i → getD v i 0 ≡ 0
   zero-beyond v fits i h =
       let one = width-beyond (set .positions) (set .sizes) i h in
-      ⊎-elim (λ c. omega (arith, fits i .constant c)) (λ c. absurd (omega (arith, fits i .used c))) (below? (getD v i 0) 16)
+      ⊎-elim (λ c. omega (arith, fits i .constant c)) (λ c. absurd (omega (arith, fits i .used c)))
+      (below? (getD v i 0) 16)
 
   -- the unused places are 0
-  pub unused-places : (q : Sequence) (m : Macro) → Means set q m → (i : ℕ) → set .positions ≤ i → (getD (m .condition) i 0 ≡ 0) × (getD (m .effect) i 0 ≡ 0)
+  pub unused-places : (q : Sequence) (m : Macro) → Means set q m → (i : ℕ) → set .positions ≤ i
+      → (getD (m .condition) i 0 ≡ 0) × (getD (m .effect) i 0 ≡ 0)
   unused-places q m means i h =
       let form = means-canonical set (isValid .formed) q m means in
       (zero-beyond (m .condition) (form .conditionFits) i h, zero-beyond (m .effect) (form .effectFits) i h)
 
   -- the empty sequence's macro: each variable in its own place, at no cost
   pub macro-empty : macroAnswer set []
-      ≡ record { outcome = 0; result = record { condition = ownVariables (set .positions); effect = ownVariables (set .positions); cost = 0 } }
+      ≡ record {
+        outcome =
+            0;
+        result = record {
+          condition = ownVariables (set .positions);
+          effect = ownVariables (set .positions);
+          cost =
+              0;
+        };
+      }
   unfolding composed composedFrom emptyLines sequenceCost
   macro-empty = answer-given set [] (valid-iff set .1 isValid) (omega arith) refl (emptyLines set) refl

@@ -1,4 +1,5 @@
--- The macro of a sequence over a valid rule set, for every length: it means what the sequence's rules do in turn, and there is none exactly where no state admits the sequence.
+-- The macro of a sequence over a valid rule set, for every length: it means what the sequence's rules do in turn, and
+-- there is none exactly where no state admits the sequence.
 -- Assumes nothing.
 use mathlib.Core.Path.{_≡_, refl, sym, ap, _∙_, subst}
 use mathlib.Core.Logic.{_↔_}
@@ -37,25 +38,43 @@ module _ (set : RuleSet) (valid : WellFormed set) where
   wide = valid-width-position set valid
 
   -- valid lines are canonical
-  pub lines-canonical : (condition effect : List ℕ) → LinesValid (set .positions) (set .sizes) condition effect → Canonical (set .positions) (set .sizes) condition effect
+  pub lines-canonical : (condition effect : List ℕ) → LinesValid (set .positions) (set .sizes) condition effect
+      → Canonical (set .positions) (set .sizes) condition effect
   lines-canonical condition effect v = canonical-iff (set .positions) (set .sizes) condition effect few wide .0 v
 
   -- the lines of each rule are canonical
-  pub rule-canonical : (r : ℕ) → 1 ≤ r → r ≤ set .count → Canonical (set .positions) (set .sizes) (ruleAt set r .condition) (ruleAt set r .effect)
+  pub rule-canonical : (r : ℕ) → 1 ≤ r → r ≤ set .count
+      → Canonical (set .positions) (set .sizes) (ruleAt set r .condition) (ruleAt set r .effect)
   unfolding ruleAt
-  rule-canonical r h k = lines-canonical (ruleAt set r .condition) (ruleAt set r .effect) (valid .lines (r - 1) (omega arith))
+  rule-canonical r h k =
+      lines-canonical (ruleAt set r .condition) (ruleAt set r .effect) (valid .lines (r - 1) (omega arith))
 
   -- ── The rules of a sequence after a macro ──────────────────────────────────────────────────────
 
   -- together they lead where the macro leads and the rules run in turn
-  composedFrom-describes : (q : Sequence) → Numbered (set .count) q → (o : Option Lines) → Form (set .positions) (set .sizes) o
-      → Describes (set .positions) (set .sizes) (λ s t. (u : State) × Leads o s u × (runIn set q u ≡ some t)) (composedFrom set q o)
+  composedFrom-describes : (q : Sequence) → Numbered (set .count) q → (o : Option Lines)
+      → Form (set .positions) (set .sizes) o
+      → Describes (set .positions) (set .sizes) (λ s t. (u : State) × Leads o s u × (runIn set q u ≡ some t))
+      (composedFrom set q o)
   unfolding composedFrom runIn
-  composedFrom-describes [] h o c = record { form = c; leads = λ s t. (λ l. (t, l, refl), λ w. subst (Leads o s) (Option·some-injective (w .0) t (w .2)) (w .1)) }
+  composedFrom-describes [] h o c =
+      record {
+        form = c;
+        leads = λ s t. (
+          λ l. (t, l, refl),
+          λ w. subst (Leads o s) (Option·some-injective (w .0) t (w .2)) (w .1),
+        );
+      }
   composedFrom-describes (r ∷ q) h o c =
-      let d = extended-describes (set .positions) (set .sizes) few (ruleAt set r) (rule-canonical r (h .0) (h .1)) o c in
+      let d = extended-describes (set .positions) (set .sizes) few (ruleAt set r)
+      (rule-canonical r (h .0) (h .1)) o c in
       describes-as (composedFrom-describes q (h .2) (extended (ruleAt set r) o) (d .form)) (λ s t. (
-        λ w. let l = d .leads s (w .0) .0 (w .1) in (l .0, l .1, run-first-iff set r q (l .0) t .1 (l .2, ap (runIn set q) (l .3) ∙ w .2)),
+        λ w. let l =
+            d .leads s (w .0) .0 (w .1) in (
+              l .0,
+              l .1,
+              run-first-iff set r q (l .0) t .1 (l .2, ap (runIn set q) (l .3) ∙ w .2),
+            ),
         λ w.
             let k = run-first-iff set r q (w .0) t .0 (w .2) in
             let u = valuesOf (ruleAt set r .effect) (w .0) in
@@ -65,7 +84,8 @@ module _ (set : RuleSet) (valid : WellFormed set) where
   -- ── The macro of a sequence ────────────────────────────────────────────────────────────────────
 
   -- its vectors are canonical
-  pub means-canonical : (q : Sequence) (m : Macro) → Means set q m → Canonical (set .positions) (set .sizes) (m .condition) (m .effect)
+  pub means-canonical : (q : Sequence) (m : Macro) → Means set q m
+      → Canonical (set .positions) (set .sizes) (m .condition) (m .effect)
   means-canonical q m means = lines-canonical (m .condition) (m .effect) (means .form)
 
   -- what has a macro is admitted: some state meets the macro's condition
@@ -76,16 +96,21 @@ module _ (set : RuleSet) (valid : WellFormed set) where
       (w .0, r .0, w .1, r .1)
 
   module _ (q : Sequence) (h : Numbered (set .count) q) where
-    composed-describes : Describes (set .positions) (set .sizes) (λ s t. (u : State) × Leads (some (emptyLines set)) s u × (runIn set q u ≡ some t)) (composed set q)
+    composed-describes : Describes (set .positions) (set .sizes)
+        (λ s t. (u : State) × Leads (some (emptyLines set)) s u × (runIn set q u ≡ some t)) (composed set q)
     unfolding composed emptyLines
-    composed-describes = composedFrom-describes q h (some (emptyLines set)) (own-canonical (set .positions) few (set .sizes) wide)
+    composed-describes =
+        composedFrom-describes q h (some (emptyLines set)) (own-canonical (set .positions) few (set .sizes) wide)
 
     -- the sequence's vectors lead from a state where its rules lead
     leads-iff : (s t : State) → StateOf set s → Leads (composed set q) s t ↔ (runIn set q s ≡ some t)
     unfolding emptyLines
     leads-iff s t d =
-        let own = own-state (set .positions) few (set .sizes) s d in
-        (λ l. let w = composed-describes .leads s t .0 l in ap (runIn set q) (sym own ∙ w .1 .1) ∙ w .2, λ e. composed-describes .leads s t .1 (s, (own, own), e))
+        let own = own-state (set .positions) few (set .sizes) s d in (
+          λ l. let w = composed-describes .leads s t .0 l in ap (runIn set q) (sym own ∙ w .1 .1)
+              ∙ w .2,
+          λ e. composed-describes .leads s t .1 (s, (own, own), e),
+        )
 
     module _ (m : Lines) (e : composed set q ≡ some m) where
       pub composed-canonical : Canonical (set .positions) (set .sizes) (m .condition) (m .effect)
@@ -100,7 +125,11 @@ module _ (set : RuleSet) (valid : WellFormed set) where
       composed-means = record {
         form = canonical-iff (set .positions) (set .sizes) (m .condition) (m .effect) few wide .1 composed-canonical;
         runsWhere = λ s d. (
-          λ a. (valuesOf (m .effect) s, lines-lead-iff s (valuesOf (m .effect) s) d .0 (applicable-iff (m .condition) s .0 a, refl)),
+          λ a. (
+            valuesOf (m .effect) s,
+            lines-lead-iff s (valuesOf (m .effect) s) d .0
+                (applicable-iff (m .condition) s .0 a, refl),
+          ),
           λ w. applicable-iff (m .condition) s .1 (lines-lead-iff s (w .0) d .1 (w .1) .0),
         );
         leadsTo = λ s t d r. lines-lead-iff s t d .1 r .1;
@@ -111,8 +140,10 @@ module _ (set : RuleSet) (valid : WellFormed set) where
     pub admitted-composed : admitted set q ≡ isSome (composed set q)
     admitted-composed =
         same-test (admitted set q) (isSome (composed set q))
-        (λ a. let w = admitted-iff set q .0 a in leads-some (composed set q) (w .0) (w .1) (leads-iff (w .0) (w .1) (w .2) .1 (w .3)))
-        (λ a. let w = of-isSome (composed set q) a in admitted-iff set q .1 (means-admitted q _ (composed-means (w .0) (w .1))))
+        (λ a. let w = admitted-iff set q .0 a in leads-some (composed set q) (w .0) (w .1)
+        (leads-iff (w .0) (w .1) (w .2) .1 (w .3)))
+        (λ a. let w = of-isSome (composed set q) a in
+        admitted-iff set q .1 (means-admitted q _ (composed-means (w .0) (w .1))))
       where
         leads-some : (o : Option Lines) (s t : State) → Leads o s t → isSome o ≡ true
         leads-some none s t l = absurd l
@@ -120,7 +151,10 @@ module _ (set : RuleSet) (valid : WellFormed set) where
 
     -- there are no vectors exactly if no state admits the sequence
     pub denied-iff : (composed set q ≡ none) ↔ Denied set q
-    denied-iff = (λ e. not-admitted-iff set q .0 (admitted-composed ∙ ap isSome e), λ d. not-some (composed set q) (sym admitted-composed ∙ not-admitted-iff set q .1 d))
+    denied-iff = (
+      λ e. not-admitted-iff set q .0 (admitted-composed ∙ ap isSome e),
+      λ d. not-some (composed set q) (sym admitted-composed ∙ not-admitted-iff set q .1 d),
+    )
       where
         not-some : (o : Option Lines) → isSome o ≡ false → o ≡ none
         not-some none e = refl

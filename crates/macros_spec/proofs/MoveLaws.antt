@@ -51,12 +51,16 @@ pub numbered-test : (n : ℕ) (q : Sequence) → every (within 1 n) q ≡ not (a
 numbered-test n [] = refl
 numbered-test n (r ∷ q) = go (within 1 n r) (numbered-test n q)
   where
-    go : (b : Bool) → every (within 1 n) q ≡ not (any (λ r. not (within 1 n r)) q) → (b && every (within 1 n) q) ≡ not (not b || any (λ r. not (within 1 n r)) q)
+    go : (b : Bool) → every (within 1 n) q ≡ not (any (λ r. not (within 1 n r)) q)
+        → (b && every (within 1 n) q) ≡ not (not b || any (λ r. not (within 1 n r)) q)
     go true e = e
     go false e = refl
 
 pub no-unknown-iff : (n : ℕ) (q : Sequence) → (any (λ r. not (within 1 n r)) q ≡ false) ↔ Numbered n q
-no-unknown-iff n q = (λ e. numbered-iff n q .0 (numbered-test n q ∙ ap not e), λ h. not-true _ (sym (numbered-test n q) ∙ numbered-iff n q .1 h))
+no-unknown-iff n q = (
+  λ e. numbered-iff n q .0 (numbered-test n q ∙ ap not e),
+  λ h. not-true _ (sym (numbered-test n q) ∙ numbered-iff n q .1 h),
+)
 
 -- a number among fewer rules is one among more
 pub numbered-wider : (m n : ℕ) (q : Sequence) → m ≤ n → Numbered m q → Numbered n q

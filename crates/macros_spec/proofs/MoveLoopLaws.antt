@@ -23,12 +23,19 @@ move-left moves i h = rw (drop-cons moves i 0 h, add-one i)
 
 -- ── Whether some move is no rule's number: the moves left decide the whole, X ────────────────────
 
-module _ (count : ℕ) (moves : Sequence) (i : ℕ) (X : Bool) (inv : any (λ r. not (within 1 count r)) (drop i moves) ≡ X) where
-  pub unknown-go : i < length moves → 1 ≤ getD moves i 0 → getD moves i 0 ≤ count → any (λ r. not (within 1 count r)) (drop (i + 1) moves) ≡ X
+module _ (count : ℕ) (moves : Sequence) (i : ℕ) (X : Bool)
+    (inv : any (λ r. not (within 1 count r)) (drop i moves) ≡ X) where
+  pub unknown-go : i < length moves → 1 ≤ getD moves i 0 → getD moves i 0 ≤ count
+      → any (λ r. not (within 1 count r)) (drop (i + 1) moves) ≡ X
   unknown-go h low high = sym (rw (move-left moves i h, within-iff 1 count (getD moves i 0) .1 (low, high))) ∙ inv
 
   pub unknown-found : i < length moves → ((1 ≤ getD moves i 0) × (getD moves i 0 ≤ count) → ⊥) → true ≡ X
-  unknown-found h outside = sym (rw (move-left moves i h, never-true (within 1 count (getD moves i 0)) (λ e. outside (within-iff 1 count (getD moves i 0) .0 e)))) ∙ inv
+  unknown-found h outside =
+      sym (rw (
+        move-left moves i h,
+        never-true (within 1 count (getD moves i 0))
+            (λ e. outside (within-iff 1 count (getD moves i 0) .0 e)),
+      )) ∙ inv
 
   pub unknown-none : length moves ≤ i → false ≡ X
   unknown-none h = sym (rw (drop-of-length-le moves {i = i} h)) ∙ inv
@@ -36,7 +43,8 @@ module _ (count : ℕ) (moves : Sequence) (i : ℕ) (X : Bool) (inv : any (λ r.
 -- ── What the moves left cost ─────────────────────────────────────────────────────────────────────
 
 module _ (set : RuleSet) (moves : Sequence) (i : ℕ) where
-  pub cost-go : (rule : Rule) → rule ≡ ruleAt set (getD moves i 0) → i < length moves → sequenceCost set (drop i moves) ≡ rule .cost + sequenceCost set (drop (i + 1) moves)
+  pub cost-go : (rule : Rule) → rule ≡ ruleAt set (getD moves i 0) → i < length moves
+      → sequenceCost set (drop i moves) ≡ rule .cost + sequenceCost set (drop (i + 1) moves)
   unfolding sequenceCost ruleCost
   cost-go rule is h = rw (move-left moves i h, is)
 
@@ -46,9 +54,11 @@ module _ (set : RuleSet) (moves : Sequence) (i : ℕ) where
 
 -- ── Whether the moves left lead from a state to an effect: that decides the whole, X ─────────────
 
-module _ (set : RuleSet) (moves : Sequence) (i : ℕ) (s : State) (effect : List ℕ) (X : Bool) (inv : endsIn (runIn set (drop i moves) s) effect ≡ X) where
+module _ (set : RuleSet) (moves : Sequence) (i : ℕ) (s : State) (effect : List ℕ) (X : Bool)
+    (inv : endsIn (runIn set (drop i moves) s) effect ≡ X) where
   module _ (rule : Rule) (is : rule ≡ ruleAt set (getD moves i 0)) (h : i < length moves) where
-    pub leads-go : applicable (rule .condition) s ≡ true → (next : State) → next ≡ successor (rule .effect) s → endsIn (runIn set (drop (i + 1) moves) next) effect ≡ X
+    pub leads-go : applicable (rule .condition) s ≡ true → (next : State) → next ≡ successor (rule .effect) s
+        → endsIn (runIn set (drop (i + 1) moves) next) effect ≡ X
     unfolding runIn stepOf
     leads-go t next e = sym (rw (move-left moves i h, ← is, t, e)) ∙ inv
 

@@ -15,7 +15,8 @@ module _ (byte : ℕ) (buffer : List ℕ) where
   unfolding filledFrom
   filled-more i h =
       let e : length buffer - i ≡ suc (length buffer - suc i) = omega arith in
-      rw (add-one i, length-set buffer i byte, take-suc-set buffer i byte h, e) (append-snoc (take i buffer) byte (replicate (length buffer - suc i) byte))
+      rw (add-one i, length-set buffer i byte, take-suc-set buffer i byte h, e)
+      (append-snoc (take i buffer) byte (replicate (length buffer - suc i) byte))
 
   -- past the end there is nothing to fill
   pub filled-past : (i : ℕ) → length buffer ≤ i → filledFrom byte i buffer ≡ buffer

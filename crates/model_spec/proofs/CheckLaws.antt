@@ -13,6 +13,7 @@ use Rattle.model_spec.specs.declared.RuleSet.{RuleSet}
 pub formed-31 : (set : RuleSet) → wellFormed set ≡ true → set .count ≤ 31
 unfolding wellFormed
 formed-31 set t =
-    let a = and-split (within 1 16 (set .positions)) (sizesValid (set .positions) (set .sizes) && (within 1 31 (set .count) && rulesValid set)) t .1 in
+    let a = and-split (within 1 16 (set .positions))
+    (sizesValid (set .positions) (set .sizes) && (within 1 31 (set .count) && rulesValid set)) t .1 in
     let b = and-split (sizesValid (set .positions) (set .sizes)) (within 1 31 (set .count) && rulesValid set) a .1 in
     within-iff 1 31 (set .count) .0 (and-split (within 1 31 (set .count)) (rulesValid set) b .0) .1

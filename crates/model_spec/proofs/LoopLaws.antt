@@ -1,4 +1,5 @@
--- The turns of loops: over the numbers from 0 to n for a test of each or of some, over two lists for their sameness, and over an array that is mapped in place.
+-- The turns of loops: over the numbers from 0 to n for a test of each or of some, over two lists for their sameness,
+-- and over an array that is mapped in place.
 -- An invariant says of what is left at i that it decides the whole, X.
 -- Assumes nothing.
 use Prim.Native.Nat.{ℕ, zero, suc, _+_, _-_, _≤_, _<_}
@@ -29,7 +30,8 @@ pub rules-left : (k m : ℕ) → k < m → numbersFrom (k + 1) (m - k) ≡ (k + 
 rules-left k m h = let e : m - k ≡ suc (m - (k + 1)) = omega arith in rw (e, add-one (k + 1))
 
 module _ (p : ℕ → Bool) (i n : ℕ) (X : Bool) where
-  pub every-go : every p (numbersFrom i (n - i)) ≡ X → i < n → p i ≡ true → every p (numbersFrom (i + 1) (n - (i + 1))) ≡ X
+  pub every-go : every p (numbersFrom i (n - i)) ≡ X → i < n → p i ≡ true
+      → every p (numbersFrom (i + 1) (n - (i + 1))) ≡ X
   every-go inv h t = sym (rw (left-more i n h, t)) ∙ inv
 
   pub every-stop : every p (numbersFrom i (n - i)) ≡ X → i < n → p i ≡ false → false ≡ X
@@ -49,7 +51,8 @@ module _ (p : ℕ → Bool) (i n : ℕ) (X : Bool) where
 
 -- the first that passes: what is left at i decides it
 module _ (p : ℕ → Bool) (i n X : ℕ) where
-  pub first-go : firstThat p (numbersFrom i (n - i)) ≡ X → i < n → p i ≡ false → firstThat p (numbersFrom (i + 1) (n - (i + 1))) ≡ X
+  pub first-go : firstThat p (numbersFrom i (n - i)) ≡ X → i < n → p i ≡ false
+      → firstThat p (numbersFrom (i + 1) (n - (i + 1))) ≡ X
   first-go inv h t = sym (rw (left-more i n h, t)) ∙ inv
 
   pub first-stop : firstThat p (numbersFrom i (n - i)) ≡ X → i < n → p i ≡ true → i ≡ X
@@ -85,10 +88,13 @@ second-fails false h = refl
 module _ (f : ℕ → ℕ) (x y : List ℕ) (i : ℕ) (X : Bool) where
   pub same-go : same (map f (drop i x)) (drop i y) ≡ X → i < length x → i < length y → f (getD x i 0) ≡ getD y i 0
       → same (map f (drop (i + 1) x)) (drop (i + 1) y) ≡ X
-  same-go inv hx hy e = sym (rw (drop-cons x i 0 hx, drop-cons y i 0 hy, eq-eqb (f (getD x i 0)) (getD y i 0) e, add-one i)) ∙ inv
+  same-go inv hx hy e =
+      sym (rw (drop-cons x i 0 hx, drop-cons y i 0 hy, eq-eqb (f (getD x i 0)) (getD y i 0) e, add-one i)) ∙ inv
 
-  pub same-stop : same (map f (drop i x)) (drop i y) ≡ X → i < length x → i < length y → (f (getD x i 0) ≡ getD y i 0 → ⊥) → false ≡ X
-  same-stop inv hx hy ne = sym (rw (drop-cons x i 0 hx, drop-cons y i 0 hy, ne-eqb (f (getD x i 0)) (getD y i 0) ne)) ∙ inv
+  pub same-stop : same (map f (drop i x)) (drop i y) ≡ X → i < length x → i < length y
+      → (f (getD x i 0) ≡ getD y i 0 → ⊥) → false ≡ X
+  same-stop inv hx hy ne =
+      sym (rw (drop-cons x i 0 hx, drop-cons y i 0 hy, ne-eqb (f (getD x i 0)) (getD y i 0) ne)) ∙ inv
 
   pub same-end : same (map f (drop i x)) (drop i y) ≡ X → length x ≤ i → length y ≤ i → true ≡ X
   same-end inv hx hy = sym (rw (drop-of-length-le x {i = i} hx, drop-of-length-le y {i = i} hy)) ∙ inv
@@ -112,7 +118,8 @@ front-suc f zero (x ∷ l) = refl
 front-suc f (suc i) (x ∷ l) = ap (λ (r : List ℕ). f x ∷ r) (front-suc f i l)
 
 -- a store at i
-pub front-more : (f : ℕ → ℕ) (i : ℕ) (l r : List ℕ) (v : ℕ) → r ≡ front f i l → v ≡ f (getD l i 0) → set r i v ≡ front f (i + 1) l
+pub front-more : (f : ℕ → ℕ) (i : ℕ) (l r : List ℕ) (v : ℕ) → r ≡ front f i l → v ≡ f (getD l i 0)
+    → set r i v ≡ front f (i + 1) l
 front-more f i l r v h e = rw (e, h, add-one i) (front-suc f i l)
 
 -- what is not yet mapped is as it was
@@ -123,7 +130,8 @@ front-at f (suc i) [] r h = rw h
 front-at f (suc i) (x ∷ l) r h = rw h (front-at f i l (front f i l) refl)
 
 -- no store at i, where f leaves what is there
-pub front-same : (f : ℕ → ℕ) (i : ℕ) (l r : List ℕ) → r ≡ front f i l → f (getD r i 0) ≡ getD r i 0 → r ≡ front f (i + 1) l
+pub front-same : (f : ℕ → ℕ) (i : ℕ) (l r : List ℕ) → r ≡ front f i l → f (getD r i 0) ≡ getD r i 0
+    → r ≡ front f (i + 1) l
 front-same f i l r h e = sym (set-getD r i 0) ∙ front-more f i l r (getD r i 0) h (sym e ∙ ap f (front-at f i l r h))
 
 pub front-all : (f : ℕ → ℕ) (i : ℕ) (l : List ℕ) → length l ≤ i → front f i l ≡ map f l

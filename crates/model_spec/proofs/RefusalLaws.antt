@@ -1,4 +1,5 @@
--- The first refusal: a number is the answer exactly if its cause holds and no cause before it does, and 0 exactly if no cause holds.
+-- The first refusal: a number is the answer exactly if its cause holds and no cause before it does, and 0 exactly if no
+-- cause holds.
 -- Assumes nothing.
 use mathlib.Core.Path.{_≡_, refl, sym, ap, _∙_}
 use mathlib.Core.Logic.{_↔_, _≢_}
@@ -28,13 +29,15 @@ no-refusal-iff ((n, true) ∷ causes) z = (λ e. absurd (z .0 e), λ h. absurd (
 no-refusal-iff ((n, false) ∷ causes) z = let w = no-refusal-iff causes (z .1) in (λ e. (refl, w .0 e), λ h. w .1 (h .1))
 
 -- causes of which none holds, before others
-pub refusal-append : (before after : List Cause) → NonZero before → firstRefusal before ≡ 0 → firstRefusal (before ++ after) ≡ firstRefusal after
+pub refusal-append : (before after : List Cause) → NonZero before → firstRefusal before ≡ 0
+    → firstRefusal (before ++ after) ≡ firstRefusal after
 refusal-append [] after z e = refl
 refusal-append ((n, true) ∷ before) after z e = absurd (z .0 e)
 refusal-append ((n, false) ∷ before) after z e = refusal-append before after (z .1) e
 
 -- causes of which one holds, before others
-pub refusal-before : (before after : List Cause) → firstRefusal before ≢ 0 → firstRefusal (before ++ after) ≡ firstRefusal before
+pub refusal-before : (before after : List Cause) → firstRefusal before ≢ 0
+    → firstRefusal (before ++ after) ≡ firstRefusal before
 refusal-before [] after h = absurd (h refl)
 refusal-before ((n, true) ∷ before) after h = refl
 refusal-before ((n, false) ∷ before) after h = refusal-before before after h

@@ -13,4 +13,5 @@ use Rattle.model_spec.proofs.RuleSet as T
 use Rattle.model_spec.proofs.RuleSet.Laws as T′
 
 pub rules-31 : (s : RuleSet) (vs : List Val) → Is T.the-row s vs → length (s .rules) ≡ 31
-rules-31 s vs is = sym (length-map (s .rules) (R.the-field .into)) ∙ LL.owed T.the-type T′.the-laws s vs is .1 .1 .1 .0 .1 .0 .1
+rules-31 s vs is =
+    sym (length-map (s .rules) (R.the-field .into)) ∙ LL.owed T.the-type T′.the-laws s vs is .1 .1 .1 .0 .1 .0 .1

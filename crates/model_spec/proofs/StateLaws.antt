@@ -1,4 +1,5 @@
--- Laws of states: the list of all states has each state of the sizes and nothing else; what a condition and an effect mean place by place.
+-- Laws of states: the list of all states has each state of the sizes and nothing else; what a condition and an effect
+-- mean place by place.
 -- Assumes nothing.
 use mathlib.Core.Path.{_≡_, sym, ap, _∙_, subst}
 use mathlib.Core.Logic.{_↔_}
@@ -13,7 +14,8 @@ use borrow.Author.Tests.{lt-ltb, le-ltb}
 use Rattle.theory_spec.specs.Lists.{_∈_, numbersFrom}
 use Rattle.theory_spec.proofs.ListLaws.{here, in-flat, of-flat, of-numbersFrom, in-numbersFrom}
 use Rattle.theory_spec.proofs.TestLaws.{same-iff}
-use Rattle.model_spec.specs.States.{State, places, valueOf, valuesOf, applicable, successor, width, IsState, choices, states}
+use Rattle.model_spec.specs.States.{State, places, valueOf, valuesOf, applicable, successor, width, IsState}
+use Rattle.model_spec.specs.States.{choices, states}
 
 -- ── All states ───────────────────────────────────────────────────────────────────────────────────
 
@@ -41,7 +43,8 @@ in-choices [] [] b = here [] []
 in-choices [] (v ∷ s) b = absurd (omega arith)
 in-choices (n ∷ ns) [] b = absurd (omega arith)
 in-choices (n ∷ ns) (v ∷ s) b =
-    in-flat (λ v. map (λ (s : State). v ∷ s) (choices ns)) (in-numbersFrom 0 n v (omega arith) (omega (arith, b .1 0 (omega arith))))
+    in-flat (λ v. map (λ (s : State). v ∷ s) (choices ns))
+    (in-numbersFrom 0 n v (omega arith) (omega (arith, b .1 0 (omega arith))))
     (Memᴰ·map (λ (s : State). v ∷ s) (in-choices ns s (omega arith, λ i h. b .1 (suc i) (omega arith))))
 
 at-numbers : (f : ℕ → ℕ) (k n i : ℕ) → i < n → getD (map f (numbersFrom k n)) i 0 ≡ f (k + i)
@@ -55,7 +58,10 @@ at-places f i h = at-numbers f 0 16 i h ∙ ap f (omega arith)
 
 pub states-iff : (positions : ℕ) (sizes : List ℕ) (s : State) → (s ∈ states positions sizes) ↔ IsState positions sizes s
 unfolding states
-states-iff positions sizes s = (λ d. let b = of-choices ws s d in (b .0, λ i h. rw (sym (at i h)) (b .1 i h)), λ h. in-choices ws s (h .0, λ i k. rw (at i k) (h .1 i k)))
+states-iff positions sizes s = (
+  λ d. let b = of-choices ws s d in (b .0, λ i h. rw (sym (at i h)) (b .1 i h)),
+  λ h. in-choices ws s (h .0, λ i k. rw (at i k) (h .1 i k)),
+)
   where
     ws : List ℕ
     ws = map (width positions sizes) places
@@ -108,7 +114,8 @@ applicable-at-iff condition s hc hs = (down, up)
     up : ((i : ℕ) → i < 16 → getD s i 0 ≡ valueOf (getD condition i 0) s) → applicable condition s ≡ true
     up f =
         let n = values-length condition s in
-        applicable-iff condition s .1 (ext-getD 0 (valuesOf condition s) s (n ∙ hc ∙ sym hs) (λ i h. values-at condition s i ∙ sym (f i (omega arith))))
+        applicable-iff condition s .1 (ext-getD 0 (valuesOf condition s) s (n ∙ hc ∙ sym hs)
+        (λ i h. values-at condition s i ∙ sym (f i (omega arith))))
 
 pub successor-at : (effect : List ℕ) (s : State) (i : ℕ) → getD (successor effect s) i 0 ≡ valueOf (getD effect i 0) s
 unfolding successor

@@ -1,4 +1,5 @@
--- Laws of validity: the test passes exactly if the set is valid, part by part; and what a valid set gives: widths, a state, steps that keep to states, and costs.
+-- Laws of validity: the test passes exactly if the set is valid, part by part; and what a valid set gives: widths, a
+-- state, steps that keep to states, and costs.
 -- Assumes nothing.
 use mathlib.Core.Path.{_≡_, refl, sym, ap, _∙_, subst}
 use mathlib.Core.Logic.{_↔_, ⊎-elim}
@@ -11,87 +12,146 @@ use lib.ListN.{length, getD, replicate, getD-replicate, List·getD-eq-default}
 use Rattle.theory_spec.specs.Lists.{onlyIf}
 use Rattle.theory_spec.specs.Sequences.{Sequence, Numbered}
 use Rattle.theory_spec.specs.how.Pruning.{Closed}
-use Rattle.theory_spec.proofs.TestLaws.{below?, leb-iff, ltb-iff, eqb-iff, same-iff, not-iff, and-iff, within-iff, cond-iff, or-iff, every-below-iff, any-below-iff}
+use Rattle.theory_spec.proofs.TestLaws.{below?, leb-iff, ltb-iff, eqb-iff, same-iff, not-iff, and-iff, within-iff}
+use Rattle.theory_spec.proofs.TestLaws.{cond-iff, or-iff, every-below-iff, any-below-iff}
 use Rattle.model_spec.specs.States.{State, valueOf, applicable, successor, width, IsState}
 use Rattle.model_spec.specs.Rules.{noRule, blankRule, emptySet, ruleAt, stepOf, ruleCost, StateOf, sequenceCost}
-use Rattle.model_spec.specs.Validity.{entryLimited, conditionPlaced, effectPlaced, conditionValid, effectValid, sizeValid, sizesValid, ruleValid, ruleBlank, ruleValidAt, rulesValid}
-use Rattle.model_spec.specs.Validity.{duplicate, repeated, hasDuplicates, wellFormed, valid, EntryValid, LinesValid, WellFormed, Valid}
+use Rattle.model_spec.specs.Validity.{entryLimited, conditionPlaced, effectPlaced, conditionValid, effectValid}
+use Rattle.model_spec.specs.Validity.{sizeValid, sizesValid, ruleValid, ruleBlank, ruleValidAt, rulesValid}
+use Rattle.model_spec.specs.Validity.{duplicate, repeated, hasDuplicates, wellFormed, valid, EntryValid}
+use Rattle.model_spec.specs.Validity.{LinesValid, WellFormed, Valid}
 use Rattle.model_spec.specs.declared.Rule.{Rule}
 use Rattle.model_spec.specs.declared.RuleSet.{RuleSet}
-use Rattle.model_spec.proofs.StateLaws.{width-position, width-beyond, value-constant, value-variable, successor-at, successor-length}
+use Rattle.model_spec.proofs.StateLaws.{width-position, width-beyond, value-constant, value-variable}
+use Rattle.model_spec.proofs.StateLaws.{successor-at, successor-length}
 
 -- ── The lines of a rule ──────────────────────────────────────────────────────────────────────────
 
 module _ (positions : ℕ) (sizes : List ℕ) where
-  limited-iff : (i e : ℕ) → (entryLimited positions sizes i e ≡ true) ↔ ((e < 16 → e < width positions sizes i) × (16 ≤ e → e - 16 < positions))
+  limited-iff : (i e : ℕ) → (entryLimited positions sizes i e ≡ true)
+      ↔ ((e < 16 → e < width positions sizes i) × (16 ≤ e → e - 16 < positions))
   unfolding entryLimited
   limited-iff i e = cond-iff e 16 _ _ (ltb-iff e (width positions sizes i)) (ltb-iff (e - 16) positions)
 
   -- an entry of an effect
-  pub effect-entry-iff : (condition : List ℕ) (i e : ℕ) → ((entryLimited positions sizes i e && effectPlaced positions sizes condition i e) ≡ true) ↔ EntryValid positions sizes condition i e
+  pub effect-entry-iff : (condition : List ℕ) (i e : ℕ)
+      → ((entryLimited positions sizes i e && effectPlaced positions sizes condition i e) ≡ true)
+      ↔ EntryValid positions sizes condition i e
   unfolding effectPlaced
   effect-entry-iff condition i e =
-      let tests = and-iff _ _ (limited-iff i e) (or-iff e 16 _ (and-iff _ _ (eqb-iff (width positions sizes (e - 16)) (width positions sizes i)) (eqb-iff (getD condition (e - 16) 0) e))) in (
-        λ t. let w = tests .0 t in record { constant = w .0 .0; position = w .0 .1; equalSizes = λ h. w .1 h .0; itself = λ h. w .1 h .1 },
+      let tests = and-iff _ _ (limited-iff i e)
+      (or-iff e 16 _ (and-iff _ _ (eqb-iff (width positions sizes (e - 16)) (width positions sizes i))
+      (eqb-iff (getD condition (e - 16) 0) e))) in (
+        λ t. let w =
+            tests .0 t in record {
+              constant = w .0 .0;
+              position = w .0 .1;
+              equalSizes = λ h. w .1 h .0;
+              itself =
+                  λ h. w .1 h .1;
+            },
         λ v. tests .1 ((v .constant, v .position), λ h. (v .equalSizes h, v .itself h)),
       )
 
   -- an entry of a condition
   pub condition-entry-iff : (condition : List ℕ) (i e : ℕ)
-      → ((entryLimited positions sizes i e && conditionPlaced positions sizes condition i e) ≡ true) ↔ (EntryValid positions sizes condition i e × (16 ≤ e → e - 16 ≤ i))
+      → ((entryLimited positions sizes i e && conditionPlaced positions sizes condition i e) ≡ true)
+      ↔ (EntryValid positions sizes condition i e × (16 ≤ e → e - 16 ≤ i))
   unfolding conditionPlaced
   condition-entry-iff condition i e =
       let tests =
       and-iff _ _ (limited-iff i e)
-      (or-iff e 16 _ (and-iff _ _ (eqb-iff (width positions sizes (e - 16)) (width positions sizes i)) (and-iff _ _ (leb-iff (e - 16) i) (eqb-iff (getD condition (e - 16) 0) e)))) in (
-        λ t. let w = tests .0 t in (record { constant = w .0 .0; position = w .0 .1; equalSizes = λ h. w .1 h .0; itself = λ h. w .1 h .1 .1 }, λ h. w .1 h .1 .0),
+      (or-iff e 16 _ (and-iff _ _ (eqb-iff (width positions sizes (e - 16)) (width positions sizes i))
+      (and-iff _ _ (leb-iff (e - 16) i) (eqb-iff (getD condition (e - 16) 0) e)))) in (
+        λ t. let w =
+            tests .0 t in (
+              record {
+                constant = w .0 .0;
+                position = w .0 .1;
+                equalSizes = λ h. w .1 h .0;
+                itself =
+                    λ h. w .1 h .1 .1;
+              },
+              λ h. w .1 h .1 .0,
+            ),
         λ v. tests .1 ((v .0 .constant, v .0 .position), λ h. (v .0 .equalSizes h, (v .1 h, v .0 .itself h))),
       )
 
   -- every entry of a condition
   pub condition-iff : (condition : List ℕ)
       → (conditionValid positions sizes condition ≡ true)
-      ↔ ((length condition ≡ 16) × ((i : ℕ) → i < 16 → EntryValid positions sizes condition i (getD condition i 0) × (16 ≤ getD condition i 0 → getD condition i 0 - 16 ≤ i)))
+      ↔ ((length condition ≡ 16) × ((i : ℕ) → i < 16 → EntryValid positions sizes condition i (getD condition i 0)
+      × (16 ≤ getD condition i 0 → getD condition i 0 - 16 ≤ i)))
   unfolding conditionValid
-  condition-iff condition = and-iff _ _ (eqb-iff (length condition) 16) (every-below-iff _ _ (λ i. condition-entry-iff condition i (getD condition i 0)) 16)
+  condition-iff condition =
+      and-iff _ _ (eqb-iff (length condition) 16)
+      (every-below-iff _ _ (λ i. condition-entry-iff condition i (getD condition i 0)) 16)
 
   -- every entry of an effect
   pub effect-iff : (condition effect : List ℕ)
-      → (effectValid positions sizes condition effect ≡ true) ↔ ((length effect ≡ 16) × ((i : ℕ) → i < 16 → EntryValid positions sizes condition i (getD effect i 0)))
+      → (effectValid positions sizes condition effect ≡ true)
+      ↔ ((length effect ≡ 16) × ((i : ℕ) → i < 16 → EntryValid positions sizes condition i (getD effect i 0)))
   unfolding effectValid
-  effect-iff condition effect = and-iff _ _ (eqb-iff (length effect) 16) (every-below-iff _ _ (λ i. effect-entry-iff condition i (getD effect i 0)) 16)
+  effect-iff condition effect =
+      and-iff _ _ (eqb-iff (length effect) 16) (every-below-iff _ _
+      (λ i. effect-entry-iff condition i (getD effect i 0)) 16)
 
-  pub lines-iff : (condition effect : List ℕ) → ((conditionValid positions sizes condition && effectValid positions sizes condition effect) ≡ true) ↔ LinesValid positions sizes condition effect
+  pub lines-iff : (condition effect : List ℕ)
+      → ((conditionValid positions sizes condition && effectValid positions sizes condition effect) ≡ true)
+      ↔ LinesValid positions sizes condition effect
   lines-iff condition effect =
       let tests = and-iff _ _ (condition-iff condition) (effect-iff condition effect) in (
-        λ t. let w = tests .0 t in record { conditionLength = w .0 .0; effectLength = w .1 .0; conditionEntries = λ i h. w .0 .1 i h .0; notLater = λ i h. w .0 .1 i h .1; effectEntries = w .1 .1 },
-        λ v. tests .1 ((v .conditionLength, λ i h. (v .conditionEntries i h, v .notLater i h)), (v .effectLength, v .effectEntries)),
+        λ t. let w =
+            tests .0 t in record {
+              conditionLength = w .0 .0;
+              effectLength = w .1 .0;
+              conditionEntries =
+                  λ i h. w .0 .1 i h .0;
+              notLater = λ i h. w .0 .1 i h .1;
+              effectEntries = w .1 .1;
+            },
+        λ v. tests .1 (
+          (v .conditionLength, λ i h. (v .conditionEntries i h, v .notLater i h)),
+          (v .effectLength, v .effectEntries),
+        ),
       )
 
   -- ── Sizes and rules ──────────────────────────────────────────────────────────────────────────────
 
   pub sizes-iff : (sizesValid positions sizes ≡ true)
-      ↔ ((length sizes ≡ 16) × ((i : ℕ) → i < 16 → (i < positions → (2 ≤ getD sizes i 0) × (getD sizes i 0 ≤ 16)) × (positions ≤ i → getD sizes i 0 ≡ 0)))
+      ↔ ((length sizes ≡ 16) × ((i : ℕ) → i < 16 → (i < positions → (2 ≤ getD sizes i 0) × (getD sizes i 0 ≤ 16))
+      × (positions ≤ i → getD sizes i 0 ≡ 0)))
   unfolding sizesValid sizeValid
-  sizes-iff = and-iff _ _ (eqb-iff _ _) (every-below-iff _ _ (λ i. cond-iff i positions _ _ (within-iff 2 16 (getD sizes i 0)) (eqb-iff (getD sizes i 0) 0)) 16)
+  sizes-iff =
+      and-iff _ _ (eqb-iff _ _) (every-below-iff _ _
+      (λ i. cond-iff i positions _ _ (within-iff 2 16 (getD sizes i 0)) (eqb-iff (getD sizes i 0) 0)) 16)
 
-  rule-iff : (rule : Rule) → (ruleValid positions sizes rule ≡ true) ↔ ((rule .cost ≤ 255) × LinesValid positions sizes (rule .condition) (rule .effect))
+  rule-iff : (rule : Rule) → (ruleValid positions sizes rule ≡ true)
+      ↔ ((rule .cost ≤ 255) × LinesValid positions sizes (rule .condition) (rule .effect))
   unfolding ruleValid
   rule-iff rule = and-iff _ _ (leb-iff _ _) (lines-iff (rule .condition) (rule .effect))
 
 pub blank-iff : (rule : Rule) → (ruleBlank rule ≡ true) ↔ (rule ≡ blankRule)
 unfolding ruleBlank
 blank-iff rule =
-    let tests = and-iff _ _ (eqb-iff (rule .cost) 0) (and-iff _ _ (same-iff (rule .condition) (replicate 16 0)) (same-iff (rule .effect) (replicate 16 0))) in
-    (λ t. let w = tests .0 t in λ i. record { cost = w .0 i; condition = w .1 .0 i; effect = w .1 .1 i }, λ e. tests .1 (ap (λ r. r .cost) e, (ap (λ r. r .condition) e, ap (λ r. r .effect) e)))
+    let tests = and-iff _ _ (eqb-iff (rule .cost) 0)
+    (and-iff _ _ (same-iff (rule .condition) (replicate 16 0)) (same-iff (rule .effect) (replicate 16 0))) in (
+      λ t. let w = tests .0 t in λ i. record { cost = w .0 i; condition = w .1 .0 i; effect = w .1 .1 i },
+      λ e. tests .1 (ap (λ r. r .cost) e, (ap (λ r. r .condition) e, ap (λ r. r .effect) e)),
+    )
 
 rules-iff : (set : RuleSet) → (rulesValid set ≡ true)
     ↔ ((length (set .rules) ≡ 31)
     × ((k : ℕ) → k < 31
-    → (k < set .count → (getD (set .rules) k noRule .cost ≤ 255) × LinesValid (set .positions) (set .sizes) (getD (set .rules) k noRule .condition) (getD (set .rules) k noRule .effect))
+    → (k < set .count → (getD (set .rules) k noRule .cost ≤ 255)
+    × LinesValid (set .positions) (set .sizes) (getD (set .rules) k noRule .condition)
+    (getD (set .rules) k noRule .effect))
     × (set .count ≤ k → getD (set .rules) k noRule ≡ blankRule)))
 unfolding rulesValid ruleValidAt
-rules-iff set = and-iff _ _ (eqb-iff _ _) (every-below-iff _ _ (λ k. cond-iff k (set .count) _ _ (rule-iff (set .positions) (set .sizes) (getD (set .rules) k noRule)) (blank-iff (getD (set .rules) k noRule))) 31)
+rules-iff set =
+    and-iff _ _ (eqb-iff _ _) (every-below-iff _ _
+    (λ k. cond-iff k (set .count) _ _ (rule-iff (set .positions) (set .sizes) (getD (set .rules) k noRule))
+    (blank-iff (getD (set .rules) k noRule))) 31)
 
 -- ── Duplicates ───────────────────────────────────────────────────────────────────────────────────
 
@@ -101,9 +161,11 @@ duplicate-iff a b = and-iff _ _ (same-iff _ _) (same-iff _ _)
 
 pub duplicates-iff : (rules : List Rule) (n : ℕ) → (hasDuplicates rules n ≡ true)
     ↔ ((k : ℕ) × (k < n)
-    × ((j : ℕ) × (j < k) × ((getD rules j noRule .condition ≡ getD rules k noRule .condition) × (getD rules j noRule .effect ≡ getD rules k noRule .effect))))
+    × ((j : ℕ) × (j < k) × ((getD rules j noRule .condition ≡ getD rules k noRule .condition)
+    × (getD rules j noRule .effect ≡ getD rules k noRule .effect))))
 unfolding hasDuplicates repeated
-duplicates-iff rules n = any-below-iff _ _ (λ k. any-below-iff _ _ (λ j. duplicate-iff (getD rules j noRule) (getD rules k noRule)) k) n
+duplicates-iff rules n =
+    any-below-iff _ _ (λ k. any-below-iff _ _ (λ j. duplicate-iff (getD rules j noRule) (getD rules k noRule)) k) n
 
 -- ── Sets ─────────────────────────────────────────────────────────────────────────────────────────
 
@@ -115,7 +177,9 @@ pub formed-iff : (set : RuleSet) → (wellFormed set ≡ true) ↔ WellFormed se
 unfolding wellFormed
 formed-iff set =
     let tests =
-    and-iff _ _ (within-iff 1 16 (set .positions)) (and-iff _ _ (sizes-iff (set .positions) (set .sizes)) (and-iff _ _ (within-iff 1 31 (set .count)) (rules-iff set))) in (
+    and-iff _ _ (within-iff 1 16 (set .positions))
+    (and-iff _ _ (sizes-iff (set .positions) (set .sizes))
+    (and-iff _ _ (within-iff 1 31 (set .count)) (rules-iff set))) in (
       λ t.
           let w = tests .0 t in
           let sizes = w .1 .0 in
@@ -132,7 +196,22 @@ formed-iff set =
             rulesBeyond = λ k h b. rules .1 k b .1 h;
           },
       λ v.
-          tests .1 (v .positionLimits, ((v .sizesLength, λ i _. (v .sizeLimits i, v .sizesBeyond i)), (v .countLimits, (v .rulesLength, λ k h. (λ b. (v .costLimits k b, v .lines k b), λ b. v .rulesBeyond k b h))))),
+          tests .1 (
+            v .positionLimits,
+            (
+              (v .sizesLength, λ i _. (v .sizeLimits i, v .sizesBeyond i)),
+              (
+                v .countLimits,
+                (
+                  v .rulesLength,
+                  λ k h. (
+                    λ b. (v .costLimits k b, v .lines k b),
+                    λ b. v .rulesBeyond k b h,
+                  ),
+                ),
+              ),
+            ),
+          ),
     )
 
 pub valid-iff : (set : RuleSet) → (valid set ≡ true) ↔ Valid set
@@ -150,12 +229,15 @@ empty-invalid = refl
 -- ── Widths and states of a valid set ─────────────────────────────────────────────────────────────
 
 -- each place has a value, and at most sixteen
-pub valid-width : (set : RuleSet) → WellFormed set → (i : ℕ) → (1 ≤ width (set .positions) (set .sizes) i) × (width (set .positions) (set .sizes) i ≤ 16)
+pub valid-width : (set : RuleSet) → WellFormed set → (i : ℕ) → (1 ≤ width (set .positions) (set .sizes) i)
+    × (width (set .positions) (set .sizes) i ≤ 16)
 valid-width set v i =
-    ⊎-elim (λ h. omega (arith, v .sizeLimits i h, width-position (set .positions) (set .sizes) i h)) (λ h. omega (arith, width-beyond (set .positions) (set .sizes) i h)) (below? i (set .positions))
+    ⊎-elim (λ h. omega (arith, v .sizeLimits i h, width-position (set .positions) (set .sizes) i h))
+    (λ h. omega (arith, width-beyond (set .positions) (set .sizes) i h)) (below? i (set .positions))
 
 -- a position has two or more
-pub valid-width-position : (set : RuleSet) → WellFormed set → (i : ℕ) → i < set .positions → 2 ≤ width (set .positions) (set .sizes) i
+pub valid-width-position : (set : RuleSet) → WellFormed set → (i : ℕ) → i < set .positions
+    → 2 ≤ width (set .positions) (set .sizes) i
 valid-width-position set v i h = omega (arith, v .sizeLimits i h, width-position (set .positions) (set .sizes) i h)
 
 pub valid-state : (set : RuleSet) → WellFormed set → StateOf set (replicate 16 0)
@@ -164,24 +246,35 @@ valid-state set v = (refl, λ i h. omega (arith, valid-width set v i, getD-repli
 -- ── Steps ────────────────────────────────────────────────────────────────────────────────────────
 
 -- an entry of a valid line stands for a value of its place
-pub entry-value : (positions : ℕ) (sizes condition : List ℕ) (i e : ℕ) (s : State) → positions ≤ 16 → EntryValid positions sizes condition i e → IsState positions sizes s
+pub entry-value : (positions : ℕ) (sizes condition : List ℕ) (i e : ℕ) (s : State) → positions ≤ 16
+    → EntryValid positions sizes condition i e → IsState positions sizes s
     → valueOf e s < width positions sizes i
 entry-value positions sizes condition i e s p v h =
     ⊎-elim (λ c. omega (arith, value-constant e s c, v .constant c))
-    (λ c. let k = v .position c in omega (arith, value-variable e s c (omega arith), h .1 (e - 16) (omega arith), v .equalSizes c))
+    (λ c. let k = v .position c in omega (
+      arith,
+      value-variable e s c (omega arith),
+      h .1 (e - 16) (omega arith),
+      v .equalSizes c,
+    ))
     (below? e 16)
 
 -- the effect of valid lines leads from a state to a state
-pub lines-state : (positions : ℕ) (sizes condition effect : List ℕ) (s : State) → positions ≤ 16 → LinesValid positions sizes condition effect → IsState positions sizes s
+pub lines-state : (positions : ℕ) (sizes condition effect : List ℕ) (s : State) → positions ≤ 16
+    → LinesValid positions sizes condition effect → IsState positions sizes s
     → IsState positions sizes (successor effect s)
-lines-state positions sizes condition effect s p v h =
-    (successor-length effect s ∙ v .effectLength, λ i k. rw (successor-at effect s i) (entry-value positions sizes condition i (getD effect i 0) s p (v .effectEntries i k) h))
+lines-state positions sizes condition effect s p v h = (
+  successor-length effect s ∙ v .effectLength,
+  λ i k. rw (successor-at effect s i) (entry-value positions sizes condition i (getD effect i 0) s p
+      (v .effectEntries i k) h),
+)
 
 onlyIf-iff : (b : Bool) (s t : State) → (onlyIf b s ≡ some t) ↔ ((b ≡ true) × (t ≡ s))
 onlyIf-iff true s t = (λ e. (refl, sym (Option·some-injective s t e)), λ w. ap {B = Option State} some (sym (w .1)))
 onlyIf-iff false s t = (λ e. absurd (Option·none-ne-some t e), λ w. absurd (false≢true (w .0)))
 
-pub step-iff : (set : RuleSet) (r : ℕ) (s t : State) → (stepOf set r s ≡ some t) ↔ ((applicable (ruleAt set r .condition) s ≡ true) × (t ≡ successor (ruleAt set r .effect) s))
+pub step-iff : (set : RuleSet) (r : ℕ) (s t : State) → (stepOf set r s ≡ some t)
+    ↔ ((applicable (ruleAt set r .condition) s ≡ true) × (t ≡ successor (ruleAt set r .effect) s))
 unfolding stepOf
 step-iff set r s t = onlyIf-iff (applicable (ruleAt set r .condition) s) (successor (ruleAt set r .effect) s) t
 
@@ -189,11 +282,13 @@ pub valid-closed : (set : RuleSet) → WellFormed set → Closed (stepOf set) (s
 unfolding ruleAt
 valid-closed set v r s t h k d e =
     subst (StateOf set) (sym (step-iff set r s t .0 e .1))
-    (lines-state (set .positions) (set .sizes) (ruleAt set r .condition) (ruleAt set r .effect) s (v .positionLimits .1) (v .lines (r - 1) (omega arith)) d)
+    (lines-state (set .positions) (set .sizes) (ruleAt set r .condition) (ruleAt set r .effect) s (v .positionLimits .1)
+    (v .lines (r - 1) (omega arith)) d)
 
 -- ── Costs ────────────────────────────────────────────────────────────────────────────────────────
 
-pub valid-cost : (set : RuleSet) → WellFormed set → (q : Sequence) → Numbered (set .count) q → sequenceCost set q ≤ 255 * length q
+pub valid-cost : (set : RuleSet) → WellFormed set → (q : Sequence) → Numbered (set .count) q
+    → sequenceCost set q ≤ 255 * length q
 unfolding sequenceCost ruleCost ruleAt
 valid-cost set v [] h = omega arith
 valid-cost set v (r ∷ q) h = omega (arith, v .costLimits (r - 1) (omega arith), valid-cost set v q (h .2))

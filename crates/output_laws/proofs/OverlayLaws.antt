@@ -37,7 +37,8 @@ shown-number n h = let same : min n 999 ≡ n = omega arith in rw same
 -- ── Pieces ───────────────────────────────────────────────────────────────────────────────────────
 
 -- where it ends at the last place at most it is a run of stores, of which the library has laws
-overlaid-sets : (at : ℕ) (bytes text : List ℕ) → at + length bytes ≤ lastPlace → overlaid at bytes text ≡ sets text at bytes
+overlaid-sets : (at : ℕ) (bytes text : List ℕ) → at + length bytes ≤ lastPlace
+    → overlaid at bytes text ≡ sets text at bytes
 unfolding overlaid
 overlaid-sets at [] text h = refl
 overlaid-sets at (b ∷ bytes) text h =
@@ -98,7 +99,8 @@ pub record Remains (at : ℕ) (all before : List ℕ) (next : ℕ) (bytes curren
 pub remains-all : (at : ℕ) (bytes text : List ℕ) → Remains at bytes text at bytes text
 remains-all at bytes text = record { place = refl; text = refl }
 
-module _ {at : ℕ} {all before : List ℕ} {next : ℕ} {bytes current : List ℕ} (r : Remains at all before next bytes current) where
+module _ {at : ℕ} {all before : List ℕ} {next : ℕ} {bytes current : List ℕ}
+    (r : Remains at all before next bytes current) where
   -- the text keeps its length
   pub remains-length : length current ≡ length before
   remains-length = sym (overlaid-length next bytes current) ∙ ap length (r .text) ∙ overlaid-length at all before
@@ -113,7 +115,8 @@ module _ {at : ℕ} {all before : List ℕ} {next : ℕ} {bytes current : List �
 
   module _ (piece rest : List ℕ) (splits : bytes ≡ piece ++ rest) where
     -- after the next piece the rest remains
-    pub remains-rest : {next′ : ℕ} {text′ : List ℕ} → Laid next piece current next′ text′ → Remains at all before next′ rest text′
+    pub remains-rest : {next′ : ℕ} {text′ : List ℕ} → Laid next piece current next′ text′
+        → Remains at all before next′ rest text′
     remains-rest p = record {
       place =
           ap (λ m. placeAfter m (length rest)) (p .place) ∙ place-place next (length piece) (length rest)
@@ -142,7 +145,8 @@ pub zeros-laid : {bytes before after : List ℕ} {next : ℕ} → Laid 0 bytes b
     → length bytes ≤ lastPlace → length bytes ≤ length before → filledFrom 0 next after ≡ padded (length before) 0 bytes
 unfolding filledFrom
 zeros-laid {bytes} {before} {after} {next} p low h =
-    rw (p .text, overlaid-length 0 bytes before, laid-end p low) (ap (λ t. t ++ replicate (length before - length bytes) 0) front)
+    rw (p .text, overlaid-length 0 bytes before, laid-end p low)
+    (ap (λ t. t ++ replicate (length before - length bytes) 0) front)
   where
     front : take (length bytes) (overlaid 0 bytes before) ≡ bytes
     front =

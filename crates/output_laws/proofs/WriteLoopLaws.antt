@@ -1,4 +1,5 @@
--- The turns of the loops that lay a list over a text, element by element. Of the first `count` elements those from place
+-- The turns of the loops that lay a list over a text, element by element. Of the first `count` elements those from
+-- place
 -- i on remain, `slice i count`; an item is laid with the byte that ends it.
 -- Assumes nothing.
 use mathlib.Core.Path.{_≡_, refl, sym, ap, _∙_}
@@ -72,11 +73,13 @@ module _ (itemText : ℕ → List ℕ) (l : List ℕ) where
       ended-more =
           let after : count - (i + 1) ≡ count - 1 - i = omega arith in
           rw (slice-more l count i 0 h k, length-slice (i + 1) count l k, after)
-          (sym (append-snoc (itemText (getD l i 0)) (endingOf (count - 1 - i)) (ended itemText (slice (i + 1) count l) [])))
+          (sym (append-snoc (itemText (getD l i 0)) (endingOf (count - 1 - i))
+          (ended itemText (slice (i + 1) count l) [])))
 
       -- once they are laid the others remain
       pub ended-rest : {at : ℕ} {all before : List ℕ} {next end next′ b : ℕ} {t t′ t″ : List ℕ}
-          → Remains at all before next (ended itemText (slice i count l) []) t → Laid next (itemText (getD l i 0)) t end t′
+          → Remains at all before next (ended itemText (slice i count l) []) t
+          → Laid next (itemText (getD l i 0)) t end t′
           → b ≡ endingOf (count - 1 - i) → Laid end (b ∷ []) t′ next′ t″
           → Remains at all before next′ (ended itemText (slice (i + 1) count l) []) t″
       ended-rest r item e byte = remains-rest r _ _ ended-more (laid-append item (rw e at byte))

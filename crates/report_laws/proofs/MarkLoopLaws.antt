@@ -1,4 +1,5 @@
--- The lines of an entry, and the turns of the loops over the entries of a table: those from place i on remain, for their number and for their lines.
+-- The lines of an entry, and the turns of the loops over the entries of a table: those from place i on remain, for
+-- their number and for their lines.
 -- Assumes nothing.
 use mathlib.Core.Path.{_≡_}
 use mathlib.Core.Logic.{_≢_}
@@ -23,7 +24,8 @@ module _ (m i entry : ℕ) where
 
   -- a mark has two
   pub entry-marked : entry ≢ kept → entryLines m i entry
-      ≡ bytes "drop=" ++ sequenceText m i ++ (lineFeed ∷ []) ++ (bytes "for=" ++ sequenceText m entry ++ (lineFeed ∷ []))
+      ≡ bytes "drop=" ++ sequenceText m i ++ (lineFeed ∷ [])
+      ++ (bytes "for=" ++ sequenceText m entry ++ (lineFeed ∷ []))
   unfolding entryLines markText
   entry-marked h = rw (ne-eqb entry kept h)
 
@@ -62,7 +64,8 @@ module _ (table : List ℕ) where
     lines-all = let e : length table / 2 - 0 ≡ length table / 2 = omega arith in rw e
 
     -- those of the entry at i come first
-    pub lines-more : (i entry : ℕ) → i < length table / 2 → entry ≡ entryAt table i → linesFrom i ≡ entryLines m i entry ++ linesFrom (i + 1)
+    pub lines-more : (i entry : ℕ) → i < length table / 2 → entry ≡ entryAt table i → linesFrom i ≡ entryLines m i entry
+        ++ linesFrom (i + 1)
     lines-more i entry h e = rw (left-more i (length table / 2) h, e)
 
     pub lines-end : (i : ℕ) → length table / 2 ≤ i → linesFrom i ≡ []

@@ -30,8 +30,10 @@ module _ (set : RuleSet) where
   unfolding tableMarks markedIndices
   table-marks =
       rw entry-count
-      (keep-same (marks (builtTable set 2)) (λ i. not (eqb (builtEntry set 2 i) kept)) (numbersFrom 0 (tableEntries set 2))
-      (λ i d. ap (λ n. not (eqb n kept)) (built-entry set 2 i (omega (arith, of-numbersFrom 0 (tableEntries set 2) d)))))
+      (keep-same (marks (builtTable set 2)) (λ i. not (eqb (builtEntry set 2 i) kept))
+      (numbersFrom 0 (tableEntries set 2))
+      (λ i d. ap (λ n. not (eqb n kept)) (built-entry set 2 i
+      (omega (arith, of-numbersFrom 0 (tableEntries set 2) d)))))
 
   module _ (some : 1 ≤ set .count) where
     -- the lines of a mark

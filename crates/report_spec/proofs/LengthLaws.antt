@@ -1,4 +1,5 @@
--- The length of a listing: at most 20,859 bytes. Numbers, sequences, lines, and the marks, of which there are at most 992, are bounded one after the other.
+-- The length of a listing: at most 20,859 bytes. Numbers, sequences, lines, and the marks, of which there are at most
+-- 992, are bounded one after the other.
 -- Assumes nothing.
 use mathlib.Core.Path.{_≡_, refl, sym, _∙_}
 use mathlib.Core.Bool.{Bool, true, false, not, cond}
@@ -18,7 +19,8 @@ use Rattle.files_spec.proofs.LengthLaws.{numeral-length, line-length, flat-leng
 use Rattle.files_spec.proofs.ReadTextLaws.{read-valid}
 use Rattle.tables_spec.specs.Table.{tableEntries, sequenceAt, kept, builtEntry, builtTable}
 use Rattle.tables_spec.proofs.CountLaws.{count-prefix}
-use Rattle.tables_spec.proofs.TableLaws.{index-sequence, sequence-index, accepted-iff, built-entry, built-least, built-accepted}
+use Rattle.tables_spec.proofs.TableLaws.{index-sequence, sequence-index, accepted-iff, built-entry, built-least}
+use Rattle.tables_spec.proofs.TableLaws.{built-accepted}
 use Rattle.report_spec.specs.Listing.{listedReach, sequenceItems, markedIndices, markLines, listingOf, listing}
 use Rattle.report_spec.proofs.ListLaws.{keep-length}
 use Rattle.report_spec.proofs.MarkLaws.{marked-entry-iff}
@@ -26,11 +28,17 @@ use Rattle.report_spec.proofs.MarkLaws.{marked-entry-iff}
 -- ── Numbers, sequences and lines ─────────────────────────────────────────────────────────────────
 
 -- at most two rule numbers have at most five bytes
-sequence-length : (m : ℕ) → m ≤ 31 → (q : Sequence) → length q ≤ 2 → Numbered m q → length (commaList (sequenceItems q)) ≤ 5
+sequence-length : (m : ℕ) → m ≤ 31 → (q : Sequence) → length q ≤ 2 → Numbered m q
+    → length (commaList (sequenceItems q)) ≤ 5
 sequence-length m few [] h n = omega arith
 sequence-length m few (a ∷ []) h n = omega (arith, numeral-length a .1 (omega (arith, n .1)))
 sequence-length m few (a ∷ b ∷ []) h n =
-    omega (arith, length-append (numeral a) (comma ∷ numeral b), numeral-length a .1 (omega (arith, n .1)), numeral-length b .1 (omega (arith, n .2 .1)))
+    omega (
+      arith,
+      length-append (numeral a) (comma ∷ numeral b),
+      numeral-length a .1 (omega (arith, n .1)),
+      numeral-length b .1 (omega (arith, n .2 .1)),
+    )
 sequence-length m few (a ∷ b ∷ c ∷ q) h n = absurd (omega arith)
 
 -- ── Marks ────────────────────────────────────────────────────────────────────────────────────────
@@ -53,11 +61,14 @@ module _ (set : RuleSet) (few : set .count ≤ 31) where
   -- there are sequences, and at most 993 of them
   entries-limits : (1 ≤ tableEntries set 2) × (tableEntries set 2 ≤ 993)
   unfolding tableEntries
-  entries-limits = (omega (arith, sequence-index set 2 [] (omega arith) tt .1), count-prefix (set .count) 2 few (omega arith))
+  entries-limits =
+      (omega (arith, sequence-index set 2 [] (omega arith) tt .1), count-prefix (set .count) 2 few (omega arith))
 
   -- the empty one is kept
   first-kept : builtEntry set 2 0 ≡ kept
-  first-kept = sym (built-entry set 2 0 (omega (arith, entries-limits .0))) ∙ accepted-iff set 2 (builtTable set 2) .0 (built-accepted set 2) .0
+  first-kept =
+      sym (built-entry set 2 0 (omega (arith, entries-limits .0)))
+      ∙ accepted-iff set 2 (builtTable set 2) .0 (built-accepted set 2) .0
 
   -- so at most 992 are marked
   pub marked-count : length (markedIndices set) ≤ 992
@@ -66,7 +77,13 @@ module _ (set : RuleSet) (few : set .count ≤ 31) where
     where
       go : (n : ℕ) → 1 ≤ n → n ≤ 993 → length (keep (λ i. not (eqb (builtEntry set 2 i) kept)) (numbersFrom 0 n)) ≤ 992
       go zero h k = absurd (omega arith)
-      go (suc n) h k = rw (eq-eqb (builtEntry set 2 0) kept first-kept) (omega (arith, keep-length (λ i. not (eqb (builtEntry set 2 i) kept)) (numbersFrom 1 n), length-numbersFrom 1 n))
+      go (suc n) h k =
+          rw (eq-eqb (builtEntry set 2 0) kept first-kept)
+          (omega (
+            arith,
+            keep-length (λ i. not (eqb (builtEntry set 2 i) kept)) (numbersFrom 1 n),
+            length-numbersFrom 1 n,
+          ))
 
   -- the listing of a set
   pub listing-of-length : length (listingOf set) ≤ 20859
@@ -95,11 +112,14 @@ listing-limits text = go (eqb (reading text .outcome) 0) refl
   where
     go : (b : Bool) → eqb (reading text .outcome) 0 ≡ b
         → (1 ≤ length (cond b (listingOf (reading text .set)) (line "refused=" (numeral (reading text .outcome) ∷ []))))
-        × (length (cond b (listingOf (reading text .set)) (line "refused=" (numeral (reading text .outcome) ∷ []))) ≤ 20859)
+        × (length (cond b (listingOf (reading text .set))
+        (line "refused=" (numeral (reading text .outcome) ∷ []))) ≤ 20859)
     go true e =
         let valid = read-valid text (eqb-true (reading text .outcome) 0 e) in
         (listing-of-some (reading text .set), listing-of-length (reading text .set) (valid .formed .countLimits .1))
-    go false e = rw (line-length "refused=" (numeral (reading text .outcome) ∷ [])) (omega arith, omega (arith, numeral-length (reading text .outcome) .0))
+    go false e =
+        rw (line-length "refused=" (numeral (reading text .outcome) ∷ []))
+        (omega arith, omega (arith, numeral-length (reading text .outcome) .0))
 
 -- a listing has at most 20,859 bytes
 pub listing-bound : (text : List ℕ) → length (listing text) ≤ 20859

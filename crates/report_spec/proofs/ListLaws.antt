@@ -15,11 +15,13 @@ keep-same p q [] h = refl
 keep-same p q (x ∷ l) h = ap₂ (λ b r. keepIf b x r) (h x (here x l)) (keep-same p q l (λ a d. h a (List·Memᴰ·tail d)))
 
 -- the lists of the elements that pass, one after the other
-pub flat-keep : {A B : Type 0} (p : A → Bool) (f : A → List B) (l : List A) → flat (λ a. cond (p a) (f a) []) l ≡ flat f (keep p l)
+pub flat-keep : {A B : Type 0} (p : A → Bool) (f : A → List B) (l : List A)
+    → flat (λ a. cond (p a) (f a) []) l ≡ flat f (keep p l)
 flat-keep p f [] = refl
 flat-keep {A} {B} p f (x ∷ l) = go (p x) (flat-keep p f l)
   where
-    go : (b : Bool) → flat (λ a. cond (p a) (f a) []) l ≡ flat f (keep p l) → cond b (f x) [] ++ flat (λ a. cond (p a) (f a) []) l ≡ flat f (keepIf b x (keep p l))
+    go : (b : Bool) → flat (λ a. cond (p a) (f a) []) l ≡ flat f (keep p l) → cond b (f x) []
+        ++ flat (λ a. cond (p a) (f a) []) l ≡ flat f (keepIf b x (keep p l))
     go true e = ap (λ r. f x ++ r) e
     go false e = e
 

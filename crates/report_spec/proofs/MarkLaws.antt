@@ -24,7 +24,9 @@ module _ (set : RuleSet) where
   pub marked-entry-iff : (i : ℕ) → (i ∈ markedIndices set) ↔ ((i < tableEntries set 2) × (builtEntry set 2 i ≢ kept))
   unfolding markedIndices
   marked-entry-iff i = (
-    λ d. let w = of-keep test (numbersFrom 0 (tableEntries set 2)) d in (omega (arith, of-numbersFrom 0 (tableEntries set 2) (w .0)), passes .0 (w .1)),
+    λ d. let w =
+        of-keep test (numbersFrom 0 (tableEntries set 2)) d in
+        (omega (arith, of-numbersFrom 0 (tableEntries set 2) (w .0)), passes .0 (w .1)),
     λ w. in-keep test (in-numbersFrom 0 (tableEntries set 2) i (omega arith) (omega (arith, w .0))) (passes .1 (w .1)),
   )
     where
@@ -45,7 +47,8 @@ module _ (set : RuleSet) where
 
   module _ (few : set .count ≤ 31) where
     -- exactly those of prunable sequences
-    pub marked-prunable-iff : (i : ℕ) → (i ∈ markedIndices set) ↔ ((i < tableEntries set 2) × Prunable set 2 (sequenceAt set 2 i))
+    pub marked-prunable-iff : (i : ℕ) → (i ∈ markedIndices set)
+        ↔ ((i < tableEntries set 2) × Prunable set 2 (sequenceAt set 2 i))
     marked-prunable-iff i = (
       λ d. let w = marked-entry-iff i .0 d in (w .0, built-mark-iff set 2 few (omega arith) i (w .0) .0 (w .1)),
       λ w. marked-entry-iff i .1 (w .0, built-mark-iff set 2 few (omega arith) i (w .0) .1 (w .1)),
@@ -56,4 +59,6 @@ module _ (set : RuleSet) where
     listed-iff q = (λ w. subst (Prunable set 2) (w .2) (marked-prunable-iff (w .0) .0 (w .1) .1), up)
       where
         up : Prunable set 2 q → Listed set q
-        up p = let w = sequence-index set 2 q (p .short) (p .rules) in (w .0, marked-prunable-iff (w .0) .1 (w .1, subst (Prunable set 2) (sym (w .2)) p), w .2)
+        up p =
+            let w = sequence-index set 2 q (p .short) (p .rules) in
+            (w .0, marked-prunable-iff (w .0) .1 (w .1, subst (Prunable set 2) (sym (w .2)) p), w .2)

@@ -31,12 +31,14 @@ module _ (text : List ℕ) where
 
   module _ (room : ℕ) where
     -- the listing fits
-    pub report-fits : length (listing text) ≤ room → (reportLength text room ≡ length (listing text)) × (reported text room ≡ padded room 0 (listing text))
+    pub report-fits : length (listing text) ≤ room → (reportLength text room ≡ length (listing text))
+        × (reported text room ≡ padded room 0 (listing text))
     unfolding reportLength reported
     report-fits h = rw (le-leb (length (listing text)) room h) (refl, refl)
 
     -- the buffer is shorter
-    pub report-short : room < length (listing text) → (reportLength text room ≡ 0) × (reported text room ≡ replicate room 0)
+    pub report-short : room < length (listing text) → (reportLength text room ≡ 0)
+        × (reported text room ≡ replicate room 0)
     unfolding reportLength reported
     report-short h = rw (lt-leb (length (listing text)) room h) (refl, refl)
 
@@ -57,15 +59,20 @@ module _ (text : List ℕ) where
         few : (set : RuleSet) → ReadAs text set → set .count ≤ 31
         few set p = read-written text set p .0 .formed .countLimits .1
 
-        short : (room < length (listing text)) ⊎ (length (listing text) ≤ room) → (reportLength text room ≡ 0) ↔ (room < length (listing text))
+        short : (room < length (listing text)) ⊎ (length (listing text) ≤ room) → (reportLength text room ≡ 0)
+            ↔ (room < length (listing text))
         short (inl h) = (λ _. h, λ _. report-short h .0)
-        short (inr h) = (λ e. absurd (omega (arith, report-fits h .0, listing-limits text .0)), λ k. absurd (omega arith))
+        short (inr h) =
+            (λ e. absurd (omega (arith, report-fits h .0, listing-limits text .0)), λ k. absurd (omega arith))
 
         shown : (room < length (listing text)) ⊎ (length (listing text) ≤ room) → reportLength text room ≢ 0
-            → (reportLength text room ≡ length (listing text)) × (reported text room ≡ listing text ++ replicate (room - reportLength text room) 0)
+            → (reportLength text room ≡ length (listing text))
+            × (reported text room ≡ listing text ++ replicate (room - reportLength text room) 0)
         shown (inl h) n = absurd (n (report-short h .0))
-        shown (inr h) n = let w = report-fits h in (w .0, w .1 ∙ ap (λ k. listing text ++ replicate (room - k) 0) (sym (w .0)))
+        shown (inr h) n =
+            let w = report-fits h in (w .0, w .1 ∙ ap (λ k. listing text ++ replicate (room - k) 0) (sym (w .0)))
 
-        zeros : (room < length (listing text)) ⊎ (length (listing text) ≤ room) → reportLength text room ≡ 0 → reported text room ≡ replicate room 0
+        zeros : (room < length (listing text)) ⊎ (length (listing text) ≤ room) → reportLength text room ≡ 0
+            → reported text room ≡ replicate room 0
         zeros (inl h) e = report-short h .1
         zeros (inr h) e = absurd (omega (arith, report-fits h .0, listing-limits text .0))

@@ -1,4 +1,5 @@
--- From what the visits come to, to what a search leaves: the limit exceeded, no plan, or the best plan's moves at the front of the blank buffer.
+-- From what the visits come to, to what a search leaves: the limit exceeded, no plan, or the best plan's moves at the
+-- front of the blank buffer.
 -- Assumes nothing.
 use mathlib.Core.Path.{_≡_, refl, sym, ap, ap₂, _∙_, subst}
 use mathlib.Core.Bool.{true, false}
@@ -33,7 +34,8 @@ use Rattle.search_laws.proofs.ExploredLaws.{whole-best, unrefused}
 -- ── The plan buffer ──────────────────────────────────────────────────────────────────────────────
 
 -- the moves of a plan at the front of a blank buffer
-put-front : (p : Sequence) (size : ℕ) → length p ≤ size → take (length p) (padded 32 noMove p) ++ drop (length p) (replicate size noMove) ≡ padded size noMove p
+put-front : (p : Sequence) (size : ℕ) → length p ≤ size → take (length p) (padded 32 noMove p)
+    ++ drop (length p) (replicate size noMove) ≡ padded size noMove p
 put-front p size h =
     let moves = take-append-seam p (replicate (32 - length p) noMove) ∙ sym (take-length p) in
     copied-padded size noMove p (length p) _ h refl (ap (λ l. l ++ drop (length p) (replicate size noMove)) moves)
@@ -132,10 +134,20 @@ module _ (set : RuleSet) (query : Query) (room : ℕ) where
               → leftWith (progress .best) (progress .steps) blank ≡ searched set query room
           unfolding bestOf
           explored-solved blank e =
-              ap₂ (λ b steps. leftWith b steps blank) best-plan steps-are ∙ ap (leftWith (bestOf (sequenceCost set plan) plan) (min count (query .stepLimit))) e
+              ap₂ (λ b steps. leftWith b steps blank) best-plan steps-are
+              ∙ ap (leftWith (bestOf (sequenceCost set plan) plan) (min count (query .stepLimit))) e
               ∙ ap buffered (put-front plan room (plan-room .1))
               ∙ sym (searched-solved set query room h (sym exceeded-is ∙ under) plan (some-found found .1))
             where
               buffered : List ℕ → Searched
               buffered buffer =
-                  record { answer = record { outcome = 0; cost = sequenceCost set plan; length = length plan; steps = min count (query .stepLimit) }; plan = buffer }
+                  record {
+                    answer = record {
+                      outcome = 0;
+                      cost = sequenceCost set plan;
+                      length = length plan;
+                      steps =
+                          min count (query .stepLimit);
+                    };
+                    plan = buffer;
+                  }

@@ -1,4 +1,5 @@
--- What the search carries along from the empty sequence on, over what it lends to itself, is what document 01's search asks for: the number of visited sequences up to the step limit,
+-- What the search carries along from the empty sequence on, over what it lends to itself, is what document 01's search
+-- asks for: the number of visited sequences up to the step limit,
 -- and the cheapest plan if the limit is not exceeded.
 -- Assumes nothing.
 use mathlib.Core.Path.{_≡_, refl, sym, ap, ap₂, _∙_, subst, fun-ext}
@@ -43,10 +44,12 @@ use Rattle.search_laws.proofs.LentLaws.{start-fits}
 use Rattle.search_laws.proofs.ProgressLaws.{notedAs, noted-as, noteOf, fold-progress}
 
 -- the rows that are lent have the rules' steps and costs
-lent-step : (set : RuleSet) → lentStep (map (λ rule. rule .condition) (set .rules)) (map (λ rule. rule .effect) (set .rules)) ≡ stepOf set
+lent-step : (set : RuleSet) → lentStep (map (λ rule. rule .condition) (set .rules))
+    (map (λ rule. rule .effect) (set .rules)) ≡ stepOf set
 unfolding lentStep stepOf ruleAt
 lent-step set =
-    fun-ext λ r. fun-ext λ s. ap₂ (λ condition effect. onlyIf (applicable condition s) (successor effect s)) (List·getD-map (λ rule. rule .condition) (set .rules) (r - 1) noRule)
+    fun-ext λ r. fun-ext λ s. ap₂ (λ condition effect. onlyIf (applicable condition s) (successor effect s))
+    (List·getD-map (λ rule. rule .condition) (set .rules) (r - 1) noRule)
     (List·getD-map (λ rule. rule .effect) (set .rules) (r - 1) noRule)
 
 lent-cost : (set : RuleSet) → lentCost (map (λ rule. rule .cost) (set .rules)) ≡ ruleCost set
@@ -71,8 +74,10 @@ module _ (set : RuleSet) (query : Query) (room : ℕ) (notRefused : NotRefused s
       let started = judged .0 .0 .0 .0 in
       let v = started .0 .0 .formed in
       best-cheapest (stepOf set) (ruleCost set) (set .count) (StateOf set) (valid-closed set v) marks
-      (accepted-justified set (query .reach) (query .table) (accepted-iff set (query .reach) (query .table) .1 (judged .1))) (startState query)
-      (start-state set query v (start-fits-iff set (query .start) .1 (started .1))) (meetsGoal (query .goal)) (query .maxMoves) (query .maxCost)
+      (accepted-justified set (query .reach) (query .table)
+      (accepted-iff set (query .reach) (query .table) .1 (judged .1))) (startState query)
+      (start-state set query v (start-fits-iff set (query .start) .1 (started .1))) (meetsGoal (query .goal))
+      (query .maxMoves) (query .maxCost)
 
   -- if all are visited, the search comes to it
   pub whole-best : length (visitedBy set query) ≤ query .stepLimit

@@ -27,10 +27,17 @@ use Rattle.search_laws.specs.declared.Limits.{Limits}
 
 module _ (set : RuleSet) (v : WellFormed set) where
   -- an entry beyond the positions is 0: a variable there would have the size of a position, which is at least 2
-  entry-beyond : (condition : List ℕ) (i e : ℕ) → set .positions ≤ i → EntryValid (set .positions) (set .sizes) condition i e → e ≡ 0
+  entry-beyond : (condition : List ℕ) (i e : ℕ) → set .positions ≤ i
+      → EntryValid (set .positions) (set .sizes) condition i e → e ≡ 0
   entry-beyond condition i e h k =
       let one = width-beyond (set .positions) (set .sizes) i h in
-      ⊎-elim (λ (b : e < 16). omega (arith, k .constant b, one)) (λ (b : 16 ≤ e). absurd (omega (arith, k .equalSizes b, valid-width-position set v (e - 16) (k .position b), one))) (below? e 16)
+      ⊎-elim (λ (b : e < 16). omega (arith, k .constant b, one))
+      (λ (b : 16 ≤ e). absurd (omega (
+        arith,
+        k .equalSizes b,
+        valid-width-position set v (e - 16) (k .position b),
+        one,
+      ))) (below? e 16)
 
   -- so a line of a rule ends in zeros
   line-beyond : (condition line : List ℕ) → length line ≡ 16
@@ -53,7 +60,14 @@ module _ (set : RuleSet) (v : WellFormed set) where
 module _ (set : RuleSet) (query : Query) (room : ℕ) (notRefused : NotRefused set query room) where
   -- what the search goes by
   abbrev pub limits : Limits
-  limits = record { positions = set .positions; count = set .count; reach = query .reach; «max_cost» = query .maxCost; «step_limit» = query .stepLimit }
+  limits =
+      record {
+        positions = set .positions;
+        count = set .count;
+        reach = query .reach;
+        «max_cost» = query .maxCost;
+        «step_limit» = query .stepLimit;
+      }
 
   judged : WellPosed set query room
   judged = not-refused-iff set query room .0 notRefused
@@ -74,11 +88,13 @@ module _ (set : RuleSet) (query : Query) (room : ℕ) (notRefused : NotRefused s
         conditionEnds = λ k h.
             let w = valid .lines k h in
             subst (EndsAt (set .positions)) (sym (List·getD-map (λ rule. rule .condition) (set .rules) k noRule))
-            (line-beyond set valid (getD (set .rules) k noRule .condition) (getD (set .rules) k noRule .condition) (w .conditionLength) (w .conditionEntries));
+            (line-beyond set valid (getD (set .rules) k noRule .condition) (getD (set .rules) k noRule .condition)
+            (w .conditionLength) (w .conditionEntries));
         effectEnds = λ k h.
             let w = valid .lines k h in
             subst (EndsAt (set .positions)) (sym (List·getD-map (λ rule. rule .effect) (set .rules) k noRule))
-            (line-beyond set valid (getD (set .rules) k noRule .condition) (getD (set .rules) k noRule .effect) (w .effectLength) (w .effectEntries));
+            (line-beyond set valid (getD (set .rules) k noRule .condition) (getD (set .rules) k noRule .effect)
+            (w .effectLength) (w .effectEntries));
       }
 
   pub lent-whole : (conditions effects : List (List ℕ)) → conditions ≡ map (λ rule. rule .condition) (set .rules)

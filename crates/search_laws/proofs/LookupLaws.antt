@@ -1,4 +1,5 @@
--- The look-up holds what the marks of a table say: at the index of the last rules of a sequence, whether one of its short suffixes is marked.
+-- The look-up holds what the marks of a table say: at the index of the last rules of a sequence, whether one of its
+-- short suffixes is marked.
 -- With it, what the functions of the look-up need: the sequence of an index without its first rule, the turns of the
 -- loop that fills the look-up, and the index of the last rules.
 -- Assumes nothing.
@@ -36,7 +37,8 @@ last-snoc n q r =
     ap (λ k. drop k (q ++ (r ∷ []))) e ∙ drop-append-le (length q - n) q (r ∷ []) (omega arith)
 
 -- their index, from that of one rule less
-pub last-place : (m n : ℕ) (q : Sequence) (r : ℕ) → indexOf m (last (suc n) (q ++ (r ∷ []))) ≡ indexOf m (last n q) * m + r
+pub last-place : (m n : ℕ) (q : Sequence) (r : ℕ)
+    → indexOf m (last (suc n) (q ++ (r ∷ []))) ≡ indexOf m (last n q) * m + r
 last-place m n q r = ap (indexOf m) (last-snoc n q r) ∙ index-snoc m 0 (last n q) r
 
 -- they are at most so many
@@ -45,7 +47,8 @@ last-length n q = omega (arith, length-drop (length q - n) q)
 
 -- they are rules of the set
 last-numbered : (m n : ℕ) (q : Sequence) → Numbered m q → Numbered m (last n q)
-last-numbered m n q k = numbered-right m (take (length q - n) q) (last n q) (subst (Numbered m) (sym (take-append-drop (length q - n) q)) k)
+last-numbered m n q k =
+    numbered-right m (take (length q - n) q) (last n q) (subst (Numbered m) (sym (take-append-drop (length q - n) q)) k)
 
 -- a sequence that is not longer is the last rules of itself
 last-all : (n : ℕ) (q : Sequence) → length q ≤ n → last n q ≡ q
@@ -56,10 +59,12 @@ last-suffixes : (n : ℕ) (q : Sequence) → suffixes (last n q) ≡ shortSuffix
 last-suffixes n [] = ap suffixes (drop-nil (0 - n))
 last-suffixes n (r ∷ q) = go (below? n (suc (length q))) (last-suffixes n q)
   where
-    go : (n < suc (length q)) ⊎ (suc (length q) ≤ n) → suffixes (last n q) ≡ shortSuffixes n q → suffixes (last n (r ∷ q)) ≡ shortSuffixes n (r ∷ q)
+    go : (n < suc (length q)) ⊎ (suc (length q) ≤ n) → suffixes (last n q) ≡ shortSuffixes n q
+        → suffixes (last n (r ∷ q)) ≡ shortSuffixes n (r ∷ q)
     go (inl h) e =
         let one : suc (length q) - n ≡ suc (length q - n) = omega arith in
-        ap (λ k. suffixes (drop k (r ∷ q))) one ∙ e ∙ sym (ap (λ b. keepIf b (r ∷ q) (shortSuffixes n q)) (lt-leb (suc (length q)) n h))
+        ap (λ k. suffixes (drop k (r ∷ q))) one ∙ e
+        ∙ sym (ap (λ b. keepIf b (r ∷ q) (shortSuffixes n q)) (lt-leb (suc (length q)) n h))
     go (inr h) e =
         ap suffixes (last-all n (r ∷ q) h)
         ∙ ap {B = List Sequence} (λ l. (r ∷ q) ∷ l) (ap suffixes (sym (last-all n q (omega arith))) ∙ e)
@@ -69,28 +74,35 @@ last-suffixes n (r ∷ q) = go (below? n (suc (length q))) (last-suffixes n q)
 
 module _ (set : RuleSet) (reach : ℕ) (table : List ℕ) where
   -- a sequence of at most `reach` rules of the set is marked exactly if the entry at its index is a mark
-  mark-at : (q : Sequence) → length q ≤ reach → Numbered (set .count) q → markedAt (set .count) table q ≡ marked set reach table q
+  mark-at : (q : Sequence) → length q ≤ reach → Numbered (set .count) q
+      → markedAt (set .count) table q ≡ marked set reach table q
   unfolding markedAt
   mark-at q h k = sym (mark-index set reach table q h k)
 
   -- so with its suffixes
-  suffix-marks : (q : Sequence) → length q ≤ reach → Numbered (set .count) q → suffixMarked (set .count) table q ≡ any (marked set reach table) (suffixes q)
+  suffix-marks : (q : Sequence) → length q ≤ reach → Numbered (set .count) q
+      → suffixMarked (set .count) table q ≡ any (marked set reach table) (suffixes q)
   unfolding suffixMarked
   suffix-marks [] h k = refl
   suffix-marks (r ∷ q) h k = ap₂ _||_ (mark-at (r ∷ q) h k) (suffix-marks q (omega arith) (k .2))
 
 -- the index of a sequence of at most three rules gives it back
-sequence-back : (m reach : ℕ) (q : Sequence) → reach ≤ 3 → length q ≤ reach → Numbered m q → sequenceOf m 3 (indexOf m q) ≡ q
-sequence-back m reach q near h k = let place = index-at m reach q h k in sequence-at m reach 3 (indexOf m q) near (place .0) ∙ place .1
+sequence-back : (m reach : ℕ) (q : Sequence) → reach ≤ 3 → length q ≤ reach → Numbered m q
+    → sequenceOf m 3 (indexOf m q) ≡ q
+sequence-back m reach q near h k =
+    let place = index-at m reach q h k in sequence-at m reach 3 (indexOf m q) near (place .0) ∙ place .1
 
 zero-mark : (b : Bool) → eqb (cond b 1 0) 0 ≡ not b
 zero-mark true = refl
 zero-mark false = refl
 
--- the look-up at the index of the last `reach` rules of a sequence is zero exactly if none of its suffixes of at most `reach` rules is marked
-pub look-up-marks : (set : RuleSet) (reach : ℕ) (table blocked : List ℕ) → reach ≤ 3 → length table ≡ 2 * tableEntries set reach
+-- the look-up at the index of the last `reach` rules of a sequence is zero exactly if none of its suffixes of at most
+-- `reach` rules is marked
+pub look-up-marks : (set : RuleSet) (reach : ℕ) (table blocked : List ℕ) → reach ≤ 3
+    → length table ≡ 2 * tableEntries set reach
     → LooksUp (set .count) table blocked → (q : Sequence) → Numbered (set .count) q
-    → eqb (getD blocked (indexOf (set .count) (last reach q)) 0) 0 ≡ not (any (marked set reach table) (shortSuffixes reach q))
+    → eqb (getD blocked (indexOf (set .count) (last reach q)) 0) 0
+    ≡ not (any (marked set reach table) (shortSuffixes reach q))
 unfolding tableEntries
 look-up-marks set reach table blocked near size looks q k =
     ap (λ n. eqb n 0) (looks (indexOf m l) ∙ ap₂ (λ a w. cond (a && suffixMarked m table w) 1 0)
@@ -130,20 +142,25 @@ tail-none m (suc k) h e =
     (sym (ap (λ b. indexOf m (drop 1 (sequenceOf m 2 b ++ ((k % m + 1) ∷ [])))) (rw same at e)), h)
 
 -- of two rules, the second
-pub tail-one : (m i : ℕ) → 1 ≤ i → (i - 1) / m ≢ 0 → (i - 1) / m ≤ m → ((i - 1) % m + 1 ≡ indexOf m (drop 1 (sequenceOf m 3 i))) × ((i - 1) % m + 1 < i)
+pub tail-one : (m i : ℕ) → 1 ≤ i → (i - 1) / m ≢ 0 → (i - 1) / m ≤ m
+    → ((i - 1) % m + 1 ≡ indexOf m (drop 1 (sequenceOf m 3 i))) × ((i - 1) % m + 1 < i)
 tail-one m zero h some few = absurd (omega arith)
-tail-one m (suc k) h some few = let same : suc k - 1 ≡ k = omega arith in rw same (go (k / m) refl (rw same at some) (rw same at few))
+tail-one m (suc k) h some few =
+    let same : suc k - 1 ≡ k = omega arith in rw same (go (k / m) refl (rw same at some) (rw same at few))
   where
-    go : (b : ℕ) → k / m ≡ b → b ≢ 0 → b ≤ m → (k % m + 1 ≡ indexOf m (drop 1 (sequenceOf m 2 b ++ ((k % m + 1) ∷ [])))) × (k % m + 1 < suc k)
+    go : (b : ℕ) → k / m ≡ b → b ≢ 0 → b ≤ m → (k % m + 1 ≡ indexOf m (drop 1 (sequenceOf m 2 b ++ ((k % m + 1) ∷ []))))
+        × (k % m + 1 < suc k)
     go zero e n l = absurd (n refl)
     go (suc j) e n l = (
-      sym (ap (λ b. indexOf m (drop 1 ((sequenceOf m 1 b ++ ((j % m + 1) ∷ [])) ++ ((k % m + 1) ∷ [])))) (div-eq-of-lt l) ∙ index-one m (k % m + 1)),
+      sym (ap (λ b. indexOf m (drop 1 ((sequenceOf m 1 b ++ ((j % m + 1) ∷ [])) ++ ((k % m + 1) ∷ []))))
+          (div-eq-of-lt l) ∙ index-one m (k % m + 1)),
       omega (arith, div-add-mod' k m, ap (λ b. b * m) e),
     )
 
 -- of three rules, the second and the third
 pub tail-two : (m i : ℕ) → 1 ≤ m → 1 ≤ i → m < (i - 1) / m
-    → ((((i - 1) / m - 1) % m + 1) * m + ((i - 1) % m + 1) ≡ indexOf m (drop 1 (sequenceOf m 3 i))) × ((((i - 1) / m - 1) % m + 1) * m + ((i - 1) % m + 1) < i)
+    → ((((i - 1) / m - 1) % m + 1) * m + ((i - 1) % m + 1) ≡ indexOf m (drop 1 (sequenceOf m 3 i)))
+    × ((((i - 1) / m - 1) % m + 1) * m + ((i - 1) % m + 1) < i)
 tail-two m zero some h many = absurd (omega arith)
 tail-two m (suc k) some h many = let same : suc k - 1 ≡ k = omega arith in rw same (go (k / m) refl (rw same at many))
   where
@@ -154,7 +171,8 @@ tail-two m (suc k) some h many = let same : suc k - 1 ≡ k = omega arith in rw 
     behind zero y l = absurd (omega arith)
     behind (suc n) y l = refl
 
-    go : (b : ℕ) → k / m ≡ b → m < b → (((b - 1) % m + 1) * m + newest ≡ indexOf m (drop 1 (sequenceOf m 2 b ++ (newest ∷ [])))) × (((b - 1) % m + 1) * m + newest < suc k)
+    go : (b : ℕ) → k / m ≡ b → m < b → (((b - 1) % m + 1) * m + newest
+        ≡ indexOf m (drop 1 (sequenceOf m 2 b ++ (newest ∷ [])))) × (((b - 1) % m + 1) * m + newest < suc k)
     go zero e l = absurd (omega arith)
     go (suc j) e l =
         let same : suc j - 1 ≡ j = omega arith in
@@ -188,12 +206,14 @@ some-rule (suc m) i end some h k = omega arith
 
 module _ (m : ℕ) (table : List ℕ) where
   -- a suffix of a sequence is the sequence, or one of what is left without its first rule
-  first-apart : (q : Sequence) (r : ℕ) → suffixMarked m table (q ++ (r ∷ [])) ≡ (markedAt m table (q ++ (r ∷ [])) || suffixMarked m table (drop 1 (q ++ (r ∷ []))))
+  first-apart : (q : Sequence) (r : ℕ) → suffixMarked m table (q ++ (r ∷ []))
+      ≡ (markedAt m table (q ++ (r ∷ [])) || suffixMarked m table (drop 1 (q ++ (r ∷ []))))
   unfolding suffixMarked
   first-apart [] r = refl
   first-apart (p ∷ q) r = refl
 
-  index-apart : (i : ℕ) → 1 ≤ i → suffixMarked m table (sequenceOf m 3 i) ≡ (markedAt m table (sequenceOf m 3 i) || suffixMarked m table (drop 1 (sequenceOf m 3 i)))
+  index-apart : (i : ℕ) → 1 ≤ i → suffixMarked m table (sequenceOf m 3 i)
+      ≡ (markedAt m table (sequenceOf m 3 i) || suffixMarked m table (drop 1 (sequenceOf m 3 i)))
   index-apart zero h = absurd (omega arith)
   index-apart (suc k) h = first-apart (sequenceOf m 2 (k / m)) (k % m + 1)
 
@@ -204,22 +224,29 @@ module _ (m : ℕ) (table : List ℕ) where
     -- the entry of an index is that of its sequence
     index-mark : markedAt m table (sequenceOf m 3 i) ≡ not (eqb (entryAt table i) kept)
     unfolding markedAt
-    index-mark = ap (λ j. not (eqb (entryAt table j) kept)) (ap (indexOf m) (sequence-at m 3 3 i (omega arith) inside) ∙ index-of-place m 3 i inside)
+    index-mark =
+        ap (λ j. not (eqb (entryAt table j) kept))
+        (ap (indexOf m) (sequence-at m 3 3 i (omega arith) inside) ∙ index-of-place m 3 i inside)
 
     -- without its first rule, the sequence has the index of what is left
     tail-back : sequenceOf m 3 (indexOf m (drop 1 (sequenceOf m 3 i))) ≡ drop 1 (sequenceOf m 3 i)
     tail-back =
-        let w = subst (λ q. (length q ≤ 3) × Numbered m q) (sym (sequence-at m 3 3 i (omega arith) inside)) (of-sequences m 3 (in-getD (sequences m 3) i [] inside)) in
-        sequence-back m 3 (drop 1 (sequenceOf m 3 i)) (omega arith) (omega (arith, w .0, length-drop 1 (sequenceOf m 3 i)))
-        (numbered-right m (take 1 (sequenceOf m 3 i)) (drop 1 (sequenceOf m 3 i)) (subst (Numbered m) (sym (take-append-drop 1 (sequenceOf m 3 i))) (w .1)))
+        let w = subst (λ q. (length q ≤ 3) × Numbered m q) (sym (sequence-at m 3 3 i (omega arith) inside))
+        (of-sequences m 3 (in-getD (sequences m 3) i [] inside)) in
+        sequence-back m 3 (drop 1 (sequenceOf m 3 i)) (omega arith)
+        (omega (arith, w .0, length-drop 1 (sequenceOf m 3 i)))
+        (numbered-right m (take 1 (sequenceOf m 3 i)) (drop 1 (sequenceOf m 3 i))
+        (subst (Numbered m) (sym (take-append-drop 1 (sequenceOf m 3 i))) (w .1)))
 
 either : {A : Type 0} (a b : Bool) (x y : A) → cond a x (cond b x y) ≡ cond (a || b) x y
 either true b x y = refl
 either false b x y = refl
 
 -- the next place holds 1 if the entry there is a mark, else what the place of the sequence without its first rule holds
-pub look-up-more : (m : ℕ) (table blocked : List ℕ) (i tail block : ℕ) → i < sequenceCount m 3 → 1 ≤ i → i < length blocked → LooksUpTo m table blocked i
-    → tail ≡ indexOf m (drop 1 (sequenceOf m 3 i)) → tail < i → block ≡ cond (not (eqb (entryAt table i) kept)) 1 (getD blocked tail 0)
+pub look-up-more : (m : ℕ) (table blocked : List ℕ) (i tail block : ℕ) → i < sequenceCount m 3 → 1 ≤ i
+    → i < length blocked → LooksUpTo m table blocked i
+    → tail ≡ indexOf m (drop 1 (sequenceOf m 3 i)) → tail < i
+    → block ≡ cond (not (eqb (entryAt table i) kept)) 1 (getD blocked tail 0)
     → LooksUpTo m table (set blocked i block) (i + 1)
 look-up-more m table blocked i tail block fits some room looks is less write j h = ⊎-elim before here (below? j i)
   where
@@ -227,7 +254,9 @@ look-up-more m table blocked i tail block fits some room looks is less write j h
     before l = getD-set-other blocked i j block 0 (λ e. omega (arith, e)) ∙ looks j l
 
     rest : getD blocked tail 0 ≡ cond (suffixMarked m table (drop 1 (sequenceOf m 3 i))) 1 0
-    rest = looks tail less ∙ ap (λ q. cond (suffixMarked m table q) 1 0) (ap (sequenceOf m 3) is ∙ tail-back m table i fits)
+    rest =
+        looks tail less ∙ ap (λ q. cond (suffixMarked m table q) 1 0)
+        (ap (sequenceOf m 3) is ∙ tail-back m table i fits)
 
     written : block ≡ cond (suffixMarked m table (sequenceOf m 3 i)) 1 0
     written =
@@ -239,7 +268,8 @@ look-up-more m table blocked i tail block fits some room looks is less write j h
     here : i ≤ j → getD (set blocked i block) j 0 ≡ cond (suffixMarked m table (sequenceOf m 3 j)) 1 0
     here l =
         let e : i ≡ j = omega arith in
-        subst (λ k. getD (set blocked i block) k 0 ≡ cond (suffixMarked m table (sequenceOf m 3 k)) 1 0) e (getD-set-same blocked i block 0 room ∙ written)
+        subst (λ k. getD (set blocked i block) k 0 ≡ cond (suffixMarked m table (sequenceOf m 3 k)) 1 0) e
+        (getD-set-same blocked i block 0 room ∙ written)
 
 -- the other places stay blank
 pub blank-more : (blocked : List ℕ) (i end block : ℕ) → i < end → BlankFrom blocked i end
@@ -270,7 +300,8 @@ look-up-whole m table blocked i end is all looks blank j = ⊎-elim entry none (
 
 -- no rule is asked for
 pub last-none : (m n : ℕ) (q : Sequence) → n ≡ 0 → indexOf m (last n q) ≡ 0
-last-none m n q h = let e : length q - n ≡ length q = omega arith in ap (λ k. indexOf m (drop k q)) e ∙ ap (indexOf m) (drop-length q)
+last-none m n q h =
+    let e : length q - n ≡ length q = omega arith in ap (λ k. indexOf m (drop k q)) e ∙ ap (indexOf m) (drop-length q)
 
 -- there is no rule
 pub last-empty : (m n d : ℕ) (plan : List ℕ) → d ≡ 0 → indexOf m (last n (take d plan)) ≡ 0
@@ -284,19 +315,25 @@ newest-apart m (suc n) zero plan h l fits = absurd (omega arith)
 newest-apart m (suc n) (suc d) plan h l fits =
     let e : suc n - 1 ≡ n = omega arith in
     let e′ : suc d - 1 ≡ d = omega arith in
-    rw (e, e′) (ap (λ q. indexOf m (last (suc n) q)) (take-suc plan d 0 fits) ∙ last-place m n (take d plan) (getD plan d 0))
+    rw (e, e′) (ap (λ q. indexOf m (last (suc n) q)) (take-suc plan d 0 fits)
+    ∙ last-place m n (take d plan) (getD plan d 0))
 
 -- nothing is before the newest rule
-pub last-one : (m n d : ℕ) (plan : List ℕ) → 1 ≤ n → 1 ≤ d → d ≤ length plan → indexOf m (last (n - 1) (take (d - 1) plan)) ≡ 0
+pub last-one : (m n d : ℕ) (plan : List ℕ) → 1 ≤ n → 1 ≤ d → d ≤ length plan
+    → indexOf m (last (n - 1) (take (d - 1) plan)) ≡ 0
     → getD plan (d - 1) 0 ≡ indexOf m (last n (take d plan))
-last-one m n d plan h l fits e = sym (newest-apart m n d plan h l fits ∙ ap (λ i. i * m + getD plan (d - 1) 0) e ∙ index-one m (getD plan (d - 1) 0))
+last-one m n d plan h l fits e =
+    sym (newest-apart m n d plan h l fits ∙ ap (λ i. i * m + getD plan (d - 1) 0) e ∙ index-one m (getD plan (d - 1) 0))
 
 -- one rule is before the newest
-pub last-two : (m n d : ℕ) (plan : List ℕ) → n ≡ 2 → 2 ≤ d → d ≤ length plan → getD plan (d - 2) 0 * m + getD plan (d - 1) 0 ≡ indexOf m (last n (take d plan))
+pub last-two : (m n d : ℕ) (plan : List ℕ) → n ≡ 2 → 2 ≤ d → d ≤ length plan
+    → getD plan (d - 2) 0 * m + getD plan (d - 1) 0 ≡ indexOf m (last n (take d plan))
 last-two m n d plan h l fits =
     let e : d - 1 - 1 ≡ d - 2 = omega arith in
-    let before = last-one m (n - 1) (d - 1) plan (omega arith) (omega arith) (omega arith) (last-none m (n - 1 - 1) (take (d - 1 - 1) plan) (omega arith)) in
-    sym (newest-apart m n d plan (omega arith) (omega arith) fits ∙ ap (λ i. i * m + getD plan (d - 1) 0) (sym before ∙ ap (λ k. getD plan k 0) e))
+    let before = last-one m (n - 1) (d - 1) plan (omega arith) (omega arith) (omega arith)
+    (last-none m (n - 1 - 1) (take (d - 1 - 1) plan) (omega arith)) in
+    sym (newest-apart m n d plan (omega arith) (omega arith) fits
+    ∙ ap (λ i. i * m + getD plan (d - 1) 0) (sym before ∙ ap (λ k. getD plan k 0) e))
 
 -- bytes lead to a small place
 pub places-small : (a b m : ℕ) → a ≤ 255 → b ≤ 255 → m ≤ 255 → (a * m ≤ 65025) × ((a * m + b) * m ≤ 16646400)

@@ -1,4 +1,5 @@
--- Laws of a plan in an array: its first n moves are the sequence so far, and one element, x, stands in every place behind them.
+-- Laws of a plan in an array: its first n moves are the sequence so far, and one element, x, stands in every place
+-- behind them.
 -- Assumes nothing.
 use mathlib.Core.Path.{_≡_, sym, ap, ap₂, _∙_}
 use mathlib.Core.List.{List, [], _∷_, _++_}
@@ -17,7 +18,8 @@ module _ {A : Type 0} (size : ℕ) (x : A) (plan : List A) (n : ℕ) (rest : pla
   -- the sequence so far has n moves
   pub plan-moves : n ≤ size → length (take n plan) ≡ n
   plan-moves h =
-      let whole : length plan ≡ size = ap length rest ∙ padded-length size x (take n plan) (omega (arith, length-take n plan)) in
+      let whole : length plan ≡ size = ap length rest
+      ∙ padded-length size x (take n plan) (omega (arith, length-take n plan)) in
       omega (arith, length-take n plan)
 
   -- a move behind it
@@ -26,7 +28,8 @@ module _ {A : Type 0} (size : ℕ) (x : A) (plan : List A) (n : ℕ) (rest : pla
       let q : List A = take n plan in
       let moves : length q ≡ n = plan-moves (omega arith) in
       let room : size - length q ≡ suc (size - length (q ++ (v ∷ []))) = omega (arith, length-append q (v ∷ [])) in
-      ap (λ l. set l n v) (rest ∙ ap (λ k. q ++ replicate k x) room) ∙ set-at q x (replicate (size - length (q ++ (v ∷ []))) x) v n moves
+      ap (λ l. set l n v) (rest ∙ ap (λ k. q ++ replicate k x) room)
+      ∙ set-at q x (replicate (size - length (q ++ (v ∷ []))) x) v n moves
       ∙ sym (append-snoc q v (replicate (size - length (q ++ (v ∷ []))) x))
 
 -- noting its moves is noting the sequence, for a goal of at most sixteen bytes

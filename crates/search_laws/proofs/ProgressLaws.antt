@@ -1,4 +1,5 @@
--- The fold that notes a list of sequences one by one: the steps are their number up to the limit, the limit is exceeded exactly if their number is above it, and if it is not, the best
+-- The fold that notes a list of sequences one by one: the steps are their number up to the limit, the limit is exceeded
+-- exactly if their number is above it, and if it is not, the best
 -- plan is the best of those that pass the test.
 -- Assumes nothing.
 use mathlib.Core.Path.{_≡_, refl, sym, ap, _∙_, subst}
@@ -28,11 +29,17 @@ module _ (cost : ℕ → ℕ) (limit : ℕ) where
 
   abbrev pub notedAs : Bool → Sequence → Progress → Progress
   notedAs good q p =
-      cond (ltb (p .steps) limit) (record { steps = p .steps + 1; exceeded = false; best = bestAs good q (p .best); floor = p .floor })
+      cond (ltb (p .steps) limit) (record {
+        steps = p .steps + 1;
+        exceeded = false;
+        best = bestAs good q (p .best);
+        floor = p .floor;
+      })
       (record { steps = p .steps; exceeded = true; best = p .best; floor = min (p .floor) (costOf cost q) })
 
   -- that is what the search notes
-  pub noted-as : (goal : List ℕ) (q : Sequence) (s : State) (p : Progress) → noted goal limit (costOf cost q) q s p ≡ notedAs (meetsGoal goal s) q p
+  pub noted-as : (goal : List ℕ) (q : Sequence) (s : State) (p : Progress)
+      → noted goal limit (costOf cost q) q s p ≡ notedAs (meetsGoal goal s) q p
   unfolding noted notedMoves bestAt bestOf
   noted-as goal q s p = refl
 
@@ -46,36 +53,50 @@ module _ (cost : ℕ → ℕ) (limit : ℕ) where
     at n c f = record { steps = n; exceeded = false; best = asBest (costOf cost) c; floor = f }
 
     -- the best plan after q
-    best-next : (q : Sequence) (c : Option Sequence) → bestAs (good q) q (asBest (costOf cost) c) ≡ asBest (costOf cost) (bestAfter cost good q c)
+    best-next : (q : Sequence) (c : Option Sequence)
+        → bestAs (good q) q (asBest (costOf cost) c) ≡ asBest (costOf cost) (bestAfter cost good q c)
     unfolding replaces bestOf noBest asBest
     best-next q c = go (good q) c
       where
-        chosen : (b : Bool) (p : Sequence) → cond b (asBest (costOf cost) (some q)) (asBest (costOf cost) (some p)) ≡ asBest (costOf cost) (cond b (some q) (some p))
+        chosen : (b : Bool) (p : Sequence) → cond b (asBest (costOf cost) (some q)) (asBest (costOf cost) (some p))
+            ≡ asBest (costOf cost) (cond b (some q) (some p))
         chosen true p = refl
         chosen false p = refl
 
-        go : (b : Bool) (c : Option Sequence) → bestAs b q (asBest (costOf cost) c) ≡ asBest (costOf cost) (cond b (improved cost q c) c)
+        go : (b : Bool) (c : Option Sequence) → bestAs b q (asBest (costOf cost) c)
+            ≡ asBest (costOf cost) (cond b (improved cost q c) c)
         go true none = refl
         go true (some p) = chosen (better cost q p) p
         go false c = refl
 
     -- once the limit is exceeded only the floor falls, to the least cost of what is met
     fold-exceeded : (l : List Sequence) (n : ℕ) (b : Best) (f : ℕ) → limit ≤ n
-        → foldOver noteOf (record { steps = n; exceeded = true; best = b; floor = f }) l ≡ record { steps = n; exceeded = true; best = b; floor = leastCost cost f l }
+        → foldOver noteOf (record { steps = n; exceeded = true; best = b; floor = f }) l
+        ≡ record { steps = n; exceeded = true; best = b; floor = leastCost cost f l }
     fold-exceeded [] n b f h = refl
     fold-exceeded (q ∷ l) n b f h =
-        ap (λ t. foldOver noteOf (cond t (record { steps = n + 1; exceeded = false; best = bestAs (good q) q b; floor = f }) (record { steps = n; exceeded = true; best = b; floor = min f (costOf cost q) })) l) (le-ltb n limit h)
-        ∙ fold-exceeded l n b (min f (costOf cost q)) h ∙ ap (λ g. record { steps = n; exceeded = true; best = b; floor = g }) (least-min cost f (costOf cost q) l)
+        ap (λ t. foldOver noteOf (cond t (record {
+          steps = n + 1;
+          exceeded = false;
+          best = bestAs (good q) q b;
+          floor =
+              f;
+        }) (record { steps = n; exceeded = true; best = b; floor = min f (costOf cost q) })) l) (le-ltb n limit h)
+        ∙ fold-exceeded l n b (min f (costOf cost q)) h
+        ∙ ap (λ g. record { steps = n; exceeded = true; best = b; floor = g }) (least-min cost f (costOf cost q) l)
 
     -- what the progress p is after n steps and the sequences of a list
     abbrev Counts : ℕ → Option Sequence → ℕ → List Sequence → Progress → Type 0
     Counts n c f l p =
-        (p .steps ≡ min (n + length l) limit) × (p .exceeded ≡ ltb limit (n + length l)) × (p .best ≡ asBest (costOf cost) (best cost good c (take (limit - n) l)))
+        (p .steps ≡ min (n + length l) limit) × (p .exceeded ≡ ltb limit (n + length l))
+        × (p .best ≡ asBest (costOf cost) (best cost good c (take (limit - n) l)))
         × (p .floor ≡ leastCost cost f (drop (limit - n) l))
 
     -- from n steps within the limit, by induction over the list
-    fold-counts : (l : List Sequence) (n : ℕ) (c : Option Sequence) (f : ℕ) → n ≤ limit → Counts n c f l (foldOver noteOf (at n c f) l)
-    fold-counts [] n c f h = (omega arith, sym (le-ltb limit (n + 0) (omega arith)), none-taken (limit - n), none-left (limit - n))
+    fold-counts : (l : List Sequence) (n : ℕ) (c : Option Sequence) (f : ℕ) → n ≤ limit
+        → Counts n c f l (foldOver noteOf (at n c f) l)
+    fold-counts [] n c f h =
+        (omega arith, sym (le-ltb limit (n + 0) (omega arith)), none-taken (limit - n), none-left (limit - n))
       where
         none-taken : (k : ℕ) → asBest (costOf cost) c ≡ asBest (costOf cost) (best cost good c (take k []))
         none-taken zero = refl
@@ -88,23 +109,42 @@ module _ (cost : ℕ → ℕ) (limit : ℕ) where
       where
         next : Bool → Progress
         next b =
-            cond b (record { steps = n + 1; exceeded = false; best = bestAs (good q) q (asBest (costOf cost) c); floor = f })
+            cond b (record {
+              steps = n + 1;
+              exceeded = false;
+              best = bestAs (good q) q (asBest (costOf cost) c);
+              floor =
+                  f;
+            })
             (record { steps = n; exceeded = true; best = asBest (costOf cost) c; floor = min f (costOf cost q) })
 
-        go : (b : Bool) → ltb n limit ≡ b → (n + 1 ≤ limit → Counts (n + 1) (bestAfter cost good q c) f l (foldOver noteOf (at (n + 1) (bestAfter cost good q c) f) l))
+        go : (b : Bool) → ltb n limit ≡ b → (n + 1 ≤ limit
+            → Counts (n + 1) (bestAfter cost good q c) f l (foldOver noteOf (at (n + 1) (bestAfter cost good q c) f) l))
             → Counts n c f (q ∷ l) (foldOver noteOf (next b) l)
         go true e ih =
             let k = ltb-true n limit e in
             let w = ih (omega arith) in
             let s : (n + 1) + length l ≡ n + length (q ∷ l) = omega arith in
             let d : limit - n ≡ suc (limit - (n + 1)) = omega arith in
-            subst (λ (b : Best). Counts n c f (q ∷ l) (foldOver noteOf (record { steps = n + 1; exceeded = false; best = b; floor = f }) l)) (sym (best-next q c))
-            (w .0 ∙ ap (λ m. min m limit) s, w .1 ∙ ap (ltb limit) s, w .2 ∙ sym (ap (λ m. asBest (costOf cost) (best cost good c (take m (q ∷ l)))) d), w .3 ∙ sym (ap (λ m. leastCost cost f (drop m (q ∷ l))) d))
+            subst (λ (b : Best). Counts n c f (q ∷ l)
+            (foldOver noteOf (record { steps = n + 1; exceeded = false; best = b; floor = f }) l))
+            (sym (best-next q c)) (
+              w .0 ∙ ap (λ m. min m limit) s,
+              w .1 ∙ ap (ltb limit) s,
+              w .2
+                  ∙ sym (ap (λ m. asBest (costOf cost) (best cost good c (take m (q ∷ l)))) d),
+              w .3
+                  ∙ sym (ap (λ m. leastCost cost f (drop m (q ∷ l))) d),
+            )
         go false e ih =
             let k = ltb-false n limit e in
             let d : limit - n ≡ 0 = omega arith in
-            subst (Counts n c f (q ∷ l)) (sym (fold-exceeded l n (asBest (costOf cost) c) (min f (costOf cost q)) k))
-            (omega arith, sym (lt-ltb limit (n + length (q ∷ l)) (omega arith)), sym (ap (λ m. asBest (costOf cost) (best cost good c (take m (q ∷ l)))) d), least-min cost f (costOf cost q) l ∙ sym (ap (λ m. leastCost cost f (drop m (q ∷ l))) d))
+            subst (Counts n c f (q ∷ l)) (sym (fold-exceeded l n (asBest (costOf cost) c) (min f (costOf cost q)) k)) (
+              omega arith,
+              sym (lt-ltb limit (n + length (q ∷ l)) (omega arith)),
+              sym (ap (λ m. asBest (costOf cost) (best cost good c (take m (q ∷ l)))) d),
+              least-min cost f (costOf cost q) l ∙ sym (ap (λ m. leastCost cost f (drop m (q ∷ l))) d),
+            )
 
     -- the same from the beginning
     pub fold-progress : (l : List Sequence)

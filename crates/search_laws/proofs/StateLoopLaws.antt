@@ -20,10 +20,12 @@ module _ (f : ℕ → ℕ) (z : f 0 ≡ 0) where
   -- beyond the positions one list, mapped by f, is the other
   rest-same : (x y : List ℕ) (i : ℕ) → ZerosFrom i x → ZerosFrom i y → length x ≡ length y → map f (drop i x) ≡ drop i y
   rest-same x y i zx zy e =
-      let size : length (map f (drop i x)) ≡ length (drop i y) = length-map (drop i x) f ∙ omega (arith, length-drop i x, length-drop i y) in
+      let size : length (map f (drop i x)) ≡ length (drop i y) = length-map (drop i x) f
+      ∙ omega (arith, length-drop i x, length-drop i y) in
       ext-getD 0 (map f (drop i x)) (drop i y) size (λ j k.
       let mapped : f (getD (drop i x) j 0) ≡ 0 = ap f (getD-drop i x j 0 ∙ zx (i + j) (omega arith)) ∙ z in
-      ap (getD (map f (drop i x)) j) (sym z) ∙ List·getD-map f (drop i x) j 0 ∙ mapped ∙ sym (getD-drop i y j 0 ∙ zy (i + j) (omega arith)))
+      ap (getD (map f (drop i x)) j) (sym z) ∙ List·getD-map f (drop i x) j 0 ∙ mapped
+      ∙ sym (getD-drop i y j 0 ∙ zy (i + j) (omega arith)))
 
   -- so a comparison of the first n places tells of all
   same-front : (n : ℕ) (x y : List ℕ) → ZerosFrom n x → ZerosFrom n y → length x ≡ length y

@@ -1,4 +1,5 @@
--- The turns of the loop of `visit_from`: what the rules from a place on make of the progress, with the rule there and without it; what a call for one more rule asks;
+-- The turns of the loop of `visit_from`: what the rules from a place on make of the progress, with the rule there and
+-- without it; what a call for one more rule asks;
 -- and that an exceeded progress stays as it is.
 -- Assumes nothing.
 use mathlib.Core.Path.{_≡_, refl, sym, ap, ap₂, subst, _∙_}
@@ -37,7 +38,8 @@ fold-fixed f b [] h = refl
 fold-fixed f b (a ∷ l) h = ap (λ x. foldOver f x l) (h a) ∙ fold-fixed f b l h
 
 -- and so does what no state changes that a rule may lead to
-enter-fixed : {A C : Type 0} (c : C) (test : A → Bool) (o : Option A) (visit : A → C) → ((t : A) → visit t ≡ c) → enterWith c test o visit ≡ c
+enter-fixed : {A C : Type 0} (c : C) (test : A → Bool) (o : Option A) (visit : A → C) → ((t : A) → visit t ≡ c)
+    → enterWith c test o visit ≡ c
 enter-fixed c test none visit h = refl
 enter-fixed {A} {C} c test (some t) visit h = go (test t)
   where
@@ -46,7 +48,8 @@ enter-fixed {A} {C} c test (some t) visit h = go (test t)
     go false = refl
 
 -- where a test decides whether there is a state, the two tests decide together
-enter-only : {A C : Type 0} (c : C) (b a : Bool) (t : A) (visit : A → C) → enterWith c (λ _. b) (onlyIf a t) visit ≡ cond (b && a) (visit t) c
+enter-only : {A C : Type 0} (c : C) (b a : Bool) (t : A) (visit : A → C)
+    → enterWith c (λ _. b) (onlyIf a t) visit ≡ cond (b && a) (visit t) c
 enter-only c true true t visit = refl
 enter-only c false true t visit = refl
 enter-only c true false t visit = refl
@@ -75,7 +78,8 @@ stepped goal cost q s p = record {
 abbrev beyond : ℕ → Progress → Progress
 beyond cost p = record { steps = p .steps; exceeded = true; best = p .best; floor = min (p .floor) cost }
 
-noted-idle : (goal : List ℕ) (limit cost : ℕ) (q : Sequence) (s : State) (p : Progress) → Idle limit cost p → noted goal limit cost q s p ≡ p
+noted-idle : (goal : List ℕ) (limit cost : ℕ) (q : Sequence) (s : State) (p : Progress) → Idle limit cost p
+    → noted goal limit cost q s p ≡ p
 unfolding noted notedMoves
 noted-idle goal limit cost q s p h =
     let low : min (p .floor) cost ≡ p .floor = let k = h .2 in omega arith in
@@ -84,7 +88,8 @@ noted-idle goal limit cost q s p h =
     ∙ (λ i. record { steps = p .steps; exceeded = sym (h .1) i; best = p .best; floor = low i })
 
 -- a sequence beyond the limit leaves the progress so
-idle-noted : (goal : List ℕ) (limit cost : ℕ) (q : Sequence) (s : State) (p c : Progress) → c ≡ noted goal limit cost q s p → c .exceeded ≡ true → Idle limit cost c
+idle-noted : (goal : List ℕ) (limit cost : ℕ) (q : Sequence) (s : State) (p c : Progress)
+    → c ≡ noted goal limit cost q s p → c .exceeded ≡ true → Idle limit cost c
 unfolding noted notedMoves
 idle-noted goal limit cost q s p c e t = go (ltb (p .steps) limit) refl e
   where
@@ -106,7 +111,9 @@ module _ (conditions effects : List (List ℕ)) (costs blocked goal : List ℕ) 
 
   -- what rule r behind q makes of the progress, with n moves left behind it
   abbrev byRule : ℕ → Sequence → State → ℕ → Progress → Progress
-  byRule n q s r c = enterWith c (λ _. mayGoOn costs blocked limits (q ++ (r ∷ []))) (lentStep conditions effects r s) (λ t. visits n (q ++ (r ∷ [])) t c)
+  byRule n q s r c =
+      enterWith c (λ _. mayGoOn costs blocked limits (q ++ (r ∷ []))) (lentStep conditions effects r s)
+      (λ t. visits n (q ++ (r ∷ [])) t c)
 
   -- what the rules from place k on make of it
   pub restFrom : ℕ → Sequence → State → ℕ → Progress → Progress
@@ -120,11 +127,14 @@ module _ (conditions effects : List (List ℕ)) (costs blocked goal : List ℕ) 
   visits-last left q s p cost c e paid is = is ∙ rw (e, paid)
 
   -- before the loop
-  pub whole : (left : ℕ) (q : Sequence) (s : State) (p : Progress) (cost : ℕ) (c : Progress) → left ≢ 0 → cost ≡ costOf (lentCost costs) q → c ≡ noted goal (limits .«step_limit») cost q s p
+  pub whole : (left : ℕ) (q : Sequence) (s : State) (p : Progress) (cost : ℕ) (c : Progress) → left ≢ 0
+      → cost ≡ costOf (lentCost costs) q → c ≡ noted goal (limits .«step_limit») cost q s p
       → restFrom (left - 1) q s 0 c ≡ visits left q s p
   unfolding restFrom visitsFrom
   whole zero q s p cost c h paid is = absurd (h refl)
-  whole (suc n) q s p cost c h paid is = let f : limits .count - 0 ≡ limits .count = omega arith in let e : suc n - 1 ≡ n = omega arith in rw (f, e, is, paid)
+  whole (suc n) q s p cost c h paid is =
+      let f : limits .count - 0 ≡ limits .count = omega arith in let e : suc n - 1 ≡ n = omega arith in
+      rw (f, e, is, paid)
 
   -- after the loop
   pub loop-end : (n : ℕ) (q : Sequence) (s : State) (k : ℕ) (c : Progress) → limits .count ≤ k → restFrom n q s k c ≡ c
@@ -132,57 +142,77 @@ module _ (conditions effects : List (List ℕ)) (costs blocked goal : List ℕ) 
   loop-end n q s k c h = let e : limits .count - k ≡ 0 = omega arith in rw e
 
   -- with one more rule a sequence costs no less
-  idle-next : (q : Sequence) (r : ℕ) (c : Progress) → Idle (limits .«step_limit») (costOf (lentCost costs) q) c → Idle (limits .«step_limit») (costOf (lentCost costs) (q ++ (r ∷ []))) c
+  idle-next : (q : Sequence) (r : ℕ) (c : Progress) → Idle (limits .«step_limit») (costOf (lentCost costs) q) c
+      → Idle (limits .«step_limit») (costOf (lentCost costs) (q ++ (r ∷ []))) c
   idle-next q r c h = let k = h .2 in (h .0, h .1, omega (arith, cost-append (lentCost costs) q (r ∷ [])))
 
   -- an exceeded progress stays as it is, all through what extends a sequence that costs no less than its floor
-  visits-idle : (n : ℕ) (q : Sequence) (s : State) (c : Progress) → Idle (limits .«step_limit») (costOf (lentCost costs) q) c → visits n q s c ≡ c
+  visits-idle : (n : ℕ) (q : Sequence) (s : State) (c : Progress)
+      → Idle (limits .«step_limit») (costOf (lentCost costs) q) c → visits n q s c ≡ c
   unfolding visitsFrom
   visits-idle zero q s c h = noted-idle goal (limits .«step_limit») (costOf (lentCost costs) q) q s c h
   visits-idle (suc n) q s c h =
-      ap (λ x. foldOver (byRule n q s) x (numbersFrom 1 (limits .count))) (noted-idle goal (limits .«step_limit») (costOf (lentCost costs) q) q s c h)
-      ∙ fold-fixed (byRule n q s) c (numbersFrom 1 (limits .count)) (λ r. enter-fixed c (λ _. mayGoOn costs blocked limits (q ++ (r ∷ []))) (lentStep conditions effects r s) _ (λ t. visits-idle n (q ++ (r ∷ [])) t c (idle-next q r c h)))
+      ap (λ x. foldOver (byRule n q s) x (numbersFrom 1 (limits .count)))
+      (noted-idle goal (limits .«step_limit») (costOf (lentCost costs) q) q s c h)
+      ∙ fold-fixed (byRule n q s) c (numbersFrom 1 (limits .count))
+      (λ r. enter-fixed c (λ _. mayGoOn costs blocked limits (q ++ (r ∷ []))) (lentStep conditions effects r s) _
+      (λ t. visits-idle n (q ++ (r ∷ [])) t c (idle-next q r c h)))
 
-  rest-idle : (n : ℕ) (q : Sequence) (s : State) (k : ℕ) (c : Progress) → Idle (limits .«step_limit») (costOf (lentCost costs) q) c → restFrom n q s k c ≡ c
+  rest-idle : (n : ℕ) (q : Sequence) (s : State) (k : ℕ) (c : Progress)
+      → Idle (limits .«step_limit») (costOf (lentCost costs) q) c → restFrom n q s k c ≡ c
   unfolding restFrom
   rest-idle n q s k c h =
       fold-fixed (byRule n q s) c (numbersFrom (k + 1) (limits .count - k))
-      (λ r. enter-fixed c (λ _. mayGoOn costs blocked limits (q ++ (r ∷ []))) (lentStep conditions effects r s) _ (λ t. visits-idle n (q ++ (r ∷ [])) t c (idle-next q r c h)))
+      (λ r. enter-fixed c (λ _. mayGoOn costs blocked limits (q ++ (r ∷ []))) (lentStep conditions effects r s) _
+      (λ t. visits-idle n (q ++ (r ∷ [])) t c (idle-next q r c h)))
 
   -- a sequence beyond the limit, with all that extends it
-  pub whole-exceeded : (left : ℕ) (q : Sequence) (s : State) (p : Progress) (cost : ℕ) (c : Progress) → left ≢ 0 → cost ≡ costOf (lentCost costs) q → c ≡ noted goal (limits .«step_limit») cost q s p
+  pub whole-exceeded : (left : ℕ) (q : Sequence) (s : State) (p : Progress) (cost : ℕ) (c : Progress) → left ≢ 0
+      → cost ≡ costOf (lentCost costs) q → c ≡ noted goal (limits .«step_limit») cost q s p
       → c .exceeded ≡ true → c ≡ visits left q s p
   whole-exceeded left q s p cost c h paid is over =
-      sym (rest-idle (left - 1) q s 0 c (subst (λ n. Idle (limits .«step_limit») n c) paid (idle-noted goal (limits .«step_limit») cost q s p c is over))) ∙ whole left q s p cost c h paid is
+      sym (rest-idle (left - 1) q s 0 c (subst (λ n. Idle (limits .«step_limit») n c) paid
+      (idle-noted goal (limits .«step_limit») cost q s p c is over))) ∙ whole left q s p cost c h paid is
 
   -- one turn
-  turn : (n : ℕ) (q : Sequence) (s : State) (k : ℕ) (c : Progress) → k < limits .count → restFrom n q s k c ≡ restFrom n q s (k + 1) (byRule n q s (k + 1) c)
+  turn : (n : ℕ) (q : Sequence) (s : State) (k : ℕ) (c : Progress) → k < limits .count
+      → restFrom n q s k c ≡ restFrom n q s (k + 1) (byRule n q s (k + 1) c)
   unfolding restFrom
   turn n q s k c h = ap (foldOver (byRule n q s) c) (rules-left k (limits .count) h)
 
-  -- whether the search goes on by the rule at place k, as `goes_on` tells from the cost so far and the first place in the look-up
+  -- whether the search goes on by the rule at place k, as `goes_on` tells from the cost so far and the first place in
+  -- the look-up
   abbrev goesBy : ℕ → ℕ → State → ℕ → Bool
-  goesBy cost first s k = (leb (cost + getD costs k 0) (limits .«max_cost») && eqb (getD blocked (first + k) 0) 0) && applicable (getD conditions k []) s
+  goesBy cost first s k =
+      (leb (cost + getD costs k 0) (limits .«max_cost») && eqb (getD blocked (first + k) 0) 0)
+      && applicable (getD conditions k []) s
 
-  module _ (q : Sequence) (cost first : ℕ) (at : first ≡ indexOf (limits .count) (last (limits .reach - 1) q) * limits .count + 1) (paid : cost ≡ costOf (lentCost costs) q) (low : 1 ≤ limits .reach) where
+  module _ (q : Sequence) (cost first : ℕ) (at : first
+      ≡ indexOf (limits .count) (last (limits .reach - 1) q) * limits .count + 1)
+      (paid : cost ≡ costOf (lentCost costs) q) (low : 1 ≤ limits .reach) where
     -- the rule at place k has the number k + 1
-    may-next : (k : ℕ) → mayGoOn costs blocked limits (q ++ ((k + 1) ∷ [])) ≡ (leb (cost + getD costs k 0) (limits .«max_cost») && eqb (getD blocked (first + k) 0) 0)
+    may-next : (k : ℕ) → mayGoOn costs blocked limits (q ++ ((k + 1) ∷ []))
+        ≡ (leb (cost + getD costs k 0) (limits .«max_cost») && eqb (getD blocked (first + k) 0) 0)
     unfolding mayGoOn lentCost
     may-next k =
         let i : k + 1 - 1 ≡ k = omega arith in
         let r : suc (limits .reach - 1) ≡ limits .reach = omega arith in
         ap₂ (λ a b. leb a (limits .«max_cost») && eqb (getD blocked b 0) 0)
         (cost-append (lentCost costs) q ((k + 1) ∷ []) ∙ ap₂ _+_ (sym paid) (omega (arith, ap (λ j. getD costs j 0) i)))
-        (ap (λ j. indexOf (limits .count) (last j (q ++ ((k + 1) ∷ [])))) (sym r) ∙ last-place (limits .count) (limits .reach - 1) q (k + 1) ∙ omega (arith, at))
+        (ap (λ j. indexOf (limits .count) (last j (q ++ ((k + 1) ∷ [])))) (sym r)
+        ∙ last-place (limits .count) (limits .reach - 1) q (k + 1) ∙ omega (arith, at))
 
     module _ (n : ℕ) (s : State) (k : ℕ) (c : Progress) where
       -- what that rule makes of the progress
-      by-next : (goes : Bool) → goesBy cost first s k ≡ goes → byRule n q s (k + 1) c ≡ cond goes (visits n (q ++ ((k + 1) ∷ [])) (successor (getD effects k []) s) c) c
+      by-next : (goes : Bool) → goesBy cost first s k ≡ goes
+          → byRule n q s (k + 1) c ≡ cond goes (visits n (q ++ ((k + 1) ∷ [])) (successor (getD effects k []) s) c) c
       unfolding lentStep
       by-next goes e =
           let i : k + 1 - 1 ≡ k = omega arith in
-          ap₂ (λ b j. enterWith c (λ _. b) (onlyIf (applicable (getD conditions j []) s) (successor (getD effects j []) s)) (λ t. visits n (q ++ ((k + 1) ∷ [])) t c)) (may-next k) i
-          ∙ enter-only c _ (applicable (getD conditions k []) s) (successor (getD effects k []) s) (λ t. visits n (q ++ ((k + 1) ∷ [])) t c)
+          ap₂ (λ b j. enterWith c (λ _. b) (onlyIf (applicable (getD conditions j []) s)
+          (successor (getD effects j []) s)) (λ t. visits n (q ++ ((k + 1) ∷ [])) t c)) (may-next k) i
+          ∙ enter-only c _ (applicable (getD conditions k []) s) (successor (getD effects k []) s)
+          (λ t. visits n (q ++ ((k + 1) ∷ [])) t c)
           ∙ ap (λ b. cond b (visits n (q ++ ((k + 1) ∷ [])) (successor (getD effects k []) s) c) c) e
 
       -- as the functions that look only at the positions tell, where lines and state end in zeros
@@ -216,7 +246,8 @@ module _ (conditions effects : List (List ℕ)) (costs blocked goal : List ℕ) 
 
 -- ── What a call for one more rule asks ───────────────────────────────────────────────────────────
 
-module _ (costs : List ℕ) (limits : Limits) (state plan : List ℕ) (n cost left : ℕ) (reached : Reached costs limits state plan n cost left) where
+module _ (costs : List ℕ) (limits : Limits) (state plan : List ℕ) (n cost left : ℕ)
+    (reached : Reached costs limits state plan n cost left) where
   -- the sequence so far is as long as it says
   so-far : length (take n plan) ≡ n
   so-far = plan-moves 32 noMove plan n (reached .rest) (let r = reached .room in omega arith)
@@ -226,9 +257,11 @@ module _ (costs : List ℕ) (limits : Limits) (state plan : List ℕ) (n cost le
     pub plan-next : take (n + 1) longer ≡ take n plan ++ ((k + 1) ∷ [])
     plan-next =
         let q = take n plan ++ ((k + 1) ∷ []) in
-        ap (take (n + 1)) made ∙ take-at q (replicate (32 - length q) noMove) (n + 1) (omega (arith, length-append (take n plan) ((k + 1) ∷ []), so-far))
+        ap (take (n + 1)) made ∙ take-at q (replicate (32 - length q) noMove) (n + 1)
+        (omega (arith, length-append (take n plan) ((k + 1) ∷ []), so-far))
 
-    -- the sequence with the rule at place k behind it is reached, with any number of moves to come for which there is room
+    -- the sequence with the rule at place k behind it is reached, with any number of moves to come for which there is
+    -- room
     pub reached-next : (conditions effects : List (List ℕ)) (goal : List ℕ) → Lent conditions effects goal limits
         → k < limits .count
         → (next : State) → next ≡ laidOver (min (limits .positions) 16) (successor (getD effects k []) state)
@@ -238,8 +271,12 @@ module _ (costs : List ℕ) (limits : Limits) (state plan : List ℕ) (n cost le
     reached-next conditions effects goal lent h next led less room = record {
       room = room;
       rest = made ∙ ap (padded 32 noMove) (sym plan-next);
-      rules = rw plan-next (numbered-append (limits .count) (take n plan) ((k + 1) ∷ []) (reached .rules) (omega arith, omega arith, tt));
-      total = sym (ap (costOf (lentCost costs)) plan-next ∙ cost-append (lentCost costs) (take n plan) ((k + 1) ∷ []) ∙ ap₂ _+_ (sym (reached .total)) paid);
+      rules =
+          rw plan-next (numbered-append (limits .count) (take n plan) ((k + 1) ∷ []) (reached .rules)
+          (omega arith, omega arith, tt));
+      total =
+          sym (ap (costOf (lentCost costs)) plan-next ∙ cost-append (lentCost costs) (take n plan) ((k + 1) ∷ [])
+          ∙ ap₂ _+_ (sym (reached .total)) paid);
       stateEnd =
           let ends = lent .effectEnds k h in
           rw (led-within (limits .positions) (getD effects k []) state next (lent .positionLimit) ends led)

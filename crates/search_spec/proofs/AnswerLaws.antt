@@ -1,4 +1,5 @@
--- What a search leaves, for every query. It fits: the plan buffer keeps its length, an outcome is at most 16, a plan has at most 32 moves and costs at most 8,160, steps are at most the limit.
+-- What a search leaves, for every query. It fits: the plan buffer keeps its length, an outcome is at most 16, a plan
+-- has at most 32 moves and costs at most 8,160, steps are at most the limit.
 -- Without a plan the buffer is blank.
 -- Assumes nothing.
 use mathlib.Core.Path.{_≡_, refl, sym, ap, subst}
@@ -22,7 +23,8 @@ use Rattle.model_spec.proofs.RefusalLaws.{no-refusal-iff, refusal-at-most}
 use Rattle.model_spec.proofs.ValidityLaws.{valid-iff, valid-cost}
 use Rattle.tables_spec.specs.Answers.{tableCauses}
 use Rattle.search_spec.specs.Query.{Query, visitedBy}
-use Rattle.search_spec.specs.Searched.{queryCauses, cheapestPlan, searchCauses, isAnswer, planOf, shownPlan, noMove, searchedWith, searched}
+use Rattle.search_spec.specs.Searched.{queryCauses, cheapestPlan, searchCauses, isAnswer, planOf, shownPlan}
+use Rattle.search_spec.specs.Searched.{noMove, searchedWith, searched}
 use Rattle.search_spec.proofs.Demand.{blank-buffer, cheapest-leads}
 
 module _ (set : RuleSet) (query : Query) (room : ℕ) where
@@ -31,8 +33,25 @@ module _ (set : RuleSet) (query : Query) (room : ℕ) where
 
   pub search-numbers : NonZero (searchCauses set query room)
   unfolding searchCauses queryCauses tableCauses
-  search-numbers =
-      (λ e. omega arith, (λ e. omega arith, (λ e. omega arith, (λ e. omega arith, (λ e. omega arith, (λ e. omega arith, (λ e. omega arith, (λ e. omega arith, (λ e. omega arith, (λ e. omega arith, tt))))))))))
+  search-numbers = (
+    λ e. omega arith,
+    (
+      λ e. omega arith,
+      (
+        λ e. omega arith,
+        (
+          λ e. omega arith,
+          (
+            λ e. omega arith,
+            (
+              λ e. omega arith,
+              (λ e. omega arith, (λ e. omega arith, (λ e. omega arith, (λ e. omega arith, tt)))),
+            ),
+          ),
+        ),
+      ),
+    ),
+  )
 
   -- every outcome is at most 16
   pub outcome-bound : searched set query room .answer .outcome ≤ 16
@@ -53,7 +72,8 @@ module _ (set : RuleSet) (query : Query) (room : ℕ) where
   unfolding searchCauses queryCauses tableCauses
   found e =
       let h = no-refusal-iff (searchCauses set query room) search-numbers .0 e in
-      let p = of-isSome (cheapestPlan set query) (not-false (isSome (cheapestPlan set query)) (h .1 .1 .1 .1 .1 .1 .1 .1 .1 .0)) in
+      let p = of-isSome (cheapestPlan set query)
+      (not-false (isSome (cheapestPlan set query)) (h .1 .1 .1 .1 .1 .1 .1 .1 .1 .0)) in
       record {
         plan = p .0;
         cheapest = p .1;
@@ -78,7 +98,8 @@ module _ (set : RuleSet) (query : Query) (room : ℕ) where
   shown-bounded = go (eqb outcome 0) refl
     where
       go : (b : Bool) → eqb outcome 0 ≡ b → Bounded (cond b (planOf (cheapestPlan set query)) [])
-      go true e = let f = found (eqb-true outcome 0 e) in subst (λ o. Bounded (planOf o)) (sym (f .cheapest)) (found-bounded f)
+      go true e =
+          let f = found (eqb-true outcome 0 e) in subst (λ o. Bounded (planOf o)) (sym (f .cheapest)) (found-bounded f)
       go false e = (omega arith, omega arith, omega arith)
 
   pub plan-size : length (searched set query room .plan) ≡ room
@@ -101,7 +122,8 @@ module _ (set : RuleSet) (query : Query) (room : ℕ) where
       go true = omega arith
       go false = omega arith
 
-  -- demand 1: a search that gives no plan shows no cost and no length, and blanks the whole plan buffer, for every query
+  -- demand 1: a search that gives no plan shows no cost and no length, and blanks the whole plan buffer, for every
+  -- query
   pub searched-blank : searched set query room .answer .outcome ≢ 0
       → (searched set query room .answer .cost ≡ 0) × (searched set query room .answer .length ≡ 0)
       × (searched set query room .plan ≡ replicate room noMove)

@@ -22,20 +22,33 @@ use Rattle.model_spec.specs.declared.RuleSet.{RuleSet}
 use Rattle.model_spec.proofs.RefusalLaws.{no-refusal-iff, refusal-append}
 use Rattle.tables_spec.specs.Answers.{tableCauses}
 use Rattle.search_spec.specs.Query.{Query, visitedBy, plansFor, LeadsToGoal}
-use Rattle.search_spec.specs.Searched.{queryCauses, cheapestPlan, searchCauses, shownPlan, planOf, noMove, searchedWith, searched, NotRefused, Demand3}
+use Rattle.search_spec.specs.Searched.{queryCauses, cheapestPlan, searchCauses, shownPlan, planOf, noMove}
+use Rattle.search_spec.specs.Searched.{searchedWith, searched, NotRefused, Demand3}
 use Rattle.search_spec.proofs.VisitedLaws.{visited-iff, visited-once, plans-iff, plans-ordered}
 
 pub query-numbers : (set : RuleSet) (query : Query) (room : ℕ) → NonZero (queryCauses set query room)
 unfolding queryCauses tableCauses
 query-numbers set query room =
-    let positive : (n : ℕ) → suc n ≡ 0 → ⊥ = λ n e. omega arith in
-    (positive 6, (positive 4, (positive 5, (positive 8, (positive 9, (positive 10, (positive 11, (positive 13, tt))))))))
+    let positive : (n : ℕ) → suc n ≡ 0 → ⊥ = λ n e. omega arith in (
+      positive 6,
+      (
+        positive 4,
+        (
+          positive 5,
+          (
+            positive 8,
+            (positive 9, (positive 10, (positive 11, (positive 13, tt)))),
+          ),
+        ),
+      ),
+    )
 
 -- a buffer with no plan in it
 pub blank-buffer : (size : ℕ) → padded size noMove [] ≡ replicate size noMove
 blank-buffer size = let e : size - 0 ≡ size = omega arith in ap (λ n. replicate n noMove) e
 
--- what is told of a query that is not refused, if it gives no plan: more sequences to visit than the step limit; no plan
+-- what is told of a query that is not refused, if it gives no plan: more sequences to visit than the step limit; no
+-- plan
 abbrev pub ends : Bool → Option Sequence → List Cause
 ends above plan = (16, above) ∷ (15, not (isSome plan)) ∷ []
 
@@ -44,16 +57,20 @@ module _ (set : RuleSet) (query : Query) where
   count = length (visitedBy set query)
 
   -- the cheapest plan leads to the goal, and is preferred to every other sequence that does
-  pub cheapest-leads : (p : Sequence) → cheapestPlan set query ≡ some p → LeadsToGoal set query p × ((q : Sequence) → LeadsToGoal set query q → (q ≡ p) ⊎ Preferred (ruleCost set) p q)
+  pub cheapest-leads : (p : Sequence) → cheapestPlan set query ≡ some p → LeadsToGoal set query p
+      × ((q : Sequence) → LeadsToGoal set query q → (q ≡ p) ⊎ Preferred (ruleCost set) p q)
   unfolding cheapestPlan
   cheapest-leads p e =
-      let least : Least (ruleCost set) (plansFor set query) p = cheapest-least (ruleCost set) (plansFor set query) (plans-ordered set query) p e in
+      let least : Least (ruleCost set) (plansFor set query) p =
+      cheapest-least (ruleCost set) (plansFor set query) (plans-ordered set query) p e in
       (plans-iff set query p .0 (least .0), λ q h. least .1 q (plans-iff set query q .1 h))
 
   -- where there is no cheapest plan, no sequence leads to the goal
   pub none-leads : cheapestPlan set query ≡ none → (q : Sequence) → LeadsToGoal set query q → ⊥
   unfolding cheapestPlan
-  none-leads e q h = List·Memᴰ·not-nil (subst (λ l. q ∈ l) (cheapest-none (ruleCost set) (plansFor set query) e) (plans-iff set query q .1 h))
+  none-leads e q h =
+      List·Memᴰ·not-nil (subst (λ l. q ∈ l) (cheapest-none (ruleCost set) (plansFor set query) e)
+      (plans-iff set query q .1 h))
 
   -- the cheapest plan is the plan shown
   pub shown-plan : (p : Sequence) → cheapestPlan set query ≡ some p → shownPlan set query 0 ≡ p

@@ -1,4 +1,5 @@
--- What the answer of a search means, for every query: each number exactly if its cause holds and none before it does, 0 exactly if none does; demand 3 for a query that is not refused.
+-- What the answer of a search means, for every query: each number exactly if its cause holds and none before it does, 0
+-- exactly if none does; demand 3 for a query that is not refused.
 -- Assumes nothing.
 use mathlib.Core.Path.{_≡_, refl, ap, _∙_}
 use mathlib.Core.Logic.{_↔_, _≢_, Iff·trans}
@@ -77,7 +78,8 @@ module _ (set : RuleSet) (query : Query) (room : ℕ) where
   ready-iff : NoneHolds untilTable ↔ Ready set (query .reach) (length (query .table))
   unfolding tableCauses buildOutcome
   ready-iff =
-      let n = no-refusal-iff (tableCauses set (query .reach) (length (query .table))) (λ e. omega arith, (λ e. omega arith, (λ e. omega arith, tt))) in
+      let n = no-refusal-iff (tableCauses set (query .reach) (length (query .table)))
+      (λ e. omega arith, (λ e. omega arith, (λ e. omega arith, tt))) in
       let r = build-ready-iff set (query .reach) (length (query .table)) in
       (λ h. r .0 (n .1 h), λ w. n .0 (r .1 w))
 
@@ -88,7 +90,8 @@ module _ (set : RuleSet) (query : Query) (room : ℕ) where
   goal-passed-iff = passed-iff untilStart 10 _ start-passed-iff (unfailed-iff _ goal-iff)
 
   moves-passed-iff : NoneHolds untilMoves ↔ MovesPassed set query
-  moves-passed-iff = passed-iff untilGoal 11 _ goal-passed-iff (ltb-false 32 (query .maxMoves), le-ltb 32 (query .maxMoves))
+  moves-passed-iff =
+      passed-iff untilGoal 11 _ goal-passed-iff (ltb-false 32 (query .maxMoves), le-ltb 32 (query .maxMoves))
 
   room-passed-iff : NoneHolds untilRoom ↔ RoomPassed set query room
   room-passed-iff =
@@ -133,19 +136,28 @@ module _ (set : RuleSet) (query : Query) (room : ℕ) where
 
   within-limit-iff : NoneHolds untilLimit ↔ WithinLimit set query room
   within-limit-iff =
-      passed-iff (queryCauses set query room) 16 _ not-refused-iff
-      (ltb-false (query .stepLimit) (length (visitedBy set query)), le-ltb (query .stepLimit) (length (visitedBy set query)))
+      passed-iff (queryCauses set query room) 16 _ not-refused-iff (
+        ltb-false (query .stepLimit) (length (visitedBy set query)),
+        le-ltb (query .stepLimit) (length (visitedBy set query)),
+      )
 
   -- there is a cheapest plan exactly if some sequence leads to the goal
   some-plan-iff : (isSome (cheapestPlan set query) ≡ true) ↔ ((q : Sequence) × LeadsToGoal set query q)
-  some-plan-iff = (λ e. let p = of-isSome (cheapestPlan set query) e in (p .0, cheapest-leads set query (p .0) (p .1) .0), λ w. go (cheapestPlan set query) refl w)
+  some-plan-iff = (
+    λ e. let p = of-isSome (cheapestPlan set query) e in
+        (p .0, cheapest-leads set query (p .0) (p .1) .0),
+    λ w. go (cheapestPlan set query) refl w,
+  )
     where
-      go : (o : Option Sequence) → cheapestPlan set query ≡ o → ((q : Sequence) × LeadsToGoal set query q) → isSome o ≡ true
+      go : (o : Option Sequence) → cheapestPlan set query ≡ o → ((q : Sequence) × LeadsToGoal set query q)
+          → isSome o ≡ true
       go none e w = absurd (none-leads set query e (w .0) (w .1))
       go (some p) e w = refl
 
   no-plan-iff : (not (isSome (cheapestPlan set query)) ≡ true) ↔ ((q : Sequence) → LeadsToGoal set query q → ⊥)
-  no-plan-iff = let i = not-iff (isSome (cheapestPlan set query)) some-plan-iff in (λ e q h. i .0 e (q, h), λ n. i .1 (λ w. n (w .0) (w .1)))
+  no-plan-iff =
+      let i = not-iff (isSome (cheapestPlan set query)) some-plan-iff in
+      (λ e q h. i .0 e (q, h), λ n. i .1 (λ w. n (w .0) (w .1)))
 
   pub search-meaning : SearchMeaning set query room (searched set query room)
   unfolding searched searchedWith searchCauses queryCauses tableCauses buildOutcome
@@ -156,13 +168,20 @@ module _ (set : RuleSet) (query : Query) (room : ℕ) where
         notValid = Iff·trans (early-iff untilTable (drop 3 causes) 7 (λ e. omega arith) refl) (shared .notValid);
         badReach = Iff·trans (early-iff untilTable (drop 3 causes) 5 (λ e. omega arith) refl) (shared .badReach);
         badLength = Iff·trans (early-iff untilTable (drop 3 causes) 6 (λ e. omega arith) refl) (shared .badLength);
-        badStart = refused-iff untilTable 9 _ ready-iff (drop 4 causes) (λ e. omega arith) refl refl (not-iff _ start-iff);
-        badGoal = refused-iff untilStart 10 _ start-passed-iff (drop 5 causes) (λ e. omega arith) refl refl (not-iff _ goal-iff);
-        manyMoves = refused-iff untilGoal 11 _ goal-passed-iff (drop 6 causes) (λ e. omega arith) refl refl (ltb-iff 32 (query .maxMoves));
+        badStart =
+            refused-iff untilTable 9 _ ready-iff (drop 4 causes) (λ e. omega arith) refl refl (not-iff _ start-iff);
+        badGoal =
+            refused-iff untilStart 10 _ start-passed-iff (drop 5 causes) (λ e. omega arith) refl refl
+            (not-iff _ goal-iff);
+        manyMoves =
+            refused-iff untilGoal 11 _ goal-passed-iff (drop 6 causes) (λ e. omega arith) refl refl
+            (ltb-iff 32 (query .maxMoves));
         smallBuffer =
             refused-iff untilMoves 12 _ moves-passed-iff (drop 7 causes) (λ e. omega arith) refl refl
             (ltb-iff room (query .maxMoves));
-        notAccepted = refused-iff untilRoom 14 _ room-passed-iff (drop 8 causes) (λ e. omega arith) refl refl (not-iff _ accepts-iff);
+        notAccepted =
+            refused-iff untilRoom 14 _ room-passed-iff (drop 8 causes) (λ e. omega arith) refl refl
+            (not-iff _ accepts-iff);
         limited =
             refused-iff (queryCauses set query room) 16 _ not-refused-iff (drop 9 causes) (λ e. omega arith) refl refl
             (ltb-iff (query .stepLimit) (length (visitedBy set query)));

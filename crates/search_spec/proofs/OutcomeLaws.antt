@@ -1,4 +1,5 @@
--- How the outcome of a query comes about: the check of its table first, whose last refusal waits for the query's own causes; and what a search leaves with each outcome.
+-- How the outcome of a query comes about: the check of its table first, whose last refusal waits for the query's own
+-- causes; and what a search leaves with each outcome.
 -- Assumes nothing.
 use mathlib.Core.Path.{_≡_, refl, sym, ap, _∙_}
 use mathlib.Core.Logic.{_⊎_, _≢_, ⊎-elim}
@@ -20,7 +21,8 @@ use Rattle.tables_spec.specs.Table.{accepted}
 use Rattle.tables_spec.specs.Answers.{tableCauses, buildOutcome, checkCauses, checkOutcome, Ready}
 use Rattle.tables_spec.proofs.AnswerLaws.{build-ready-iff, check-meaning}
 use Rattle.search_spec.specs.Query.{Query, startFits, goalFits, visitedBy}
-use Rattle.search_spec.specs.Searched.{queryCauses, cheapestPlan, isAnswer, shownPlan, noMove, Searched, searchedWith, searched}
+use Rattle.search_spec.specs.Searched.{queryCauses, cheapestPlan, isAnswer, shownPlan, noMove, Searched}
+use Rattle.search_spec.specs.Searched.{searchedWith, searched}
 use Rattle.search_spec.proofs.Demand.{blank-buffer, limited-outcome, unlimited-outcome, shown-plan}
 use Rattle.search_spec.proofs.MeaningLaws.{refused-outcome, refused-no-answer}
 
@@ -56,9 +58,12 @@ module _ (set : RuleSet) (query : Query) where
   checked = checkOutcome set (query .reach) (query .table)
 
   -- once what is shared is judged, later causes decide
-  past-shared : Ready set (query .reach) (length (query .table)) → (later : List Cause) → firstRefusal (shared ++ later) ≡ firstRefusal later
+  past-shared : Ready set (query .reach) (length (query .table)) → (later : List Cause)
+      → firstRefusal (shared ++ later) ≡ firstRefusal later
   unfolding tableCauses buildOutcome
-  past-shared r later = refusal-append shared later (λ e. omega arith, (λ e. omega arith, (λ e. omega arith, tt))) (build-ready-iff set (query .reach) (length (query .table)) .1 r)
+  past-shared r later =
+      refusal-append shared later (λ e. omega arith, (λ e. omega arith, (λ e. omega arith, tt)))
+      (build-ready-iff set (query .reach) (length (query .table)) .1 r)
 
   -- then the query's own causes decide in turn, and last the check's
   module _ (room : ℕ) (r : Ready set (query .reach) (length (query .table))) where
@@ -109,7 +114,8 @@ module _ (set : RuleSet) (query : Query) where
 
       refused : firstRefusal shared ≢ 0
       refused e =
-          let m = past-shared (build-ready-iff set (query .reach) (length (query .table)) .0 e) (unaccepted set query ∷ []) in
+          let m = past-shared (build-ready-iff set (query .reach) (length (query .table)) .0 e)
+          (unaccepted set query ∷ []) in
           one-of (accepted set (query .reach) (query .table)) (λ k. h₀ (m ∙ k)) (λ k. h₁₄ (m ∙ k))
 
 -- ── What a search leaves with each outcome ───────────────────────────────────────────────────────

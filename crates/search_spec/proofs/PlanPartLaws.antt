@@ -1,4 +1,5 @@
--- The plan handed back: of what a search leaves it is the plan shown, for every query; of any buffer and length it is the front, or empty where the length is above the buffer's.
+-- The plan handed back: of what a search leaves it is the plan shown, for every query; of any buffer and length it is
+-- the front, or empty where the length is above the buffer's.
 -- Assumes nothing.
 use mathlib.Core.Path.{_≡_, sym, _∙_}
 use mathlib.Core.Logic.{_⊎_, inl, inr, _≢_}
@@ -33,7 +34,8 @@ module _ (plan : List ℕ) (n : ℕ) where
 -- the plan, whatever stands behind it
 part-before : (p rest : List ℕ) → planPart (p ++ rest) (length p) ≡ p
 unfolding planPart
-part-before p rest = rw (le-leb (length p) (length (p ++ rest)) (omega (arith, length-append p rest))) (take-append-seam p rest)
+part-before p rest =
+    rw (le-leb (length p) (length (p ++ rest)) (omega (arith, length-append p rest))) (take-append-seam p rest)
 
 -- ── Of what a search leaves ──────────────────────────────────────────────────────────────────────
 
@@ -56,14 +58,18 @@ module _ (set : RuleSet) (query : Query) (room : ℕ) where
     pub part-meaning : PartMeaning set query room found
     part-meaning =
         record {
-          cheapestHanded = λ e. let shown = means .answered (means .solved .0 e .0 .0) .cheapestShown e in rw (held (shown .0) (shown .3, shown .4)) (shown .1, shown .5);
+          cheapestHanded =
+              λ e. let shown = means .answered (means .solved .0 e .0 .0) .cheapestShown e in
+              rw (held (shown .0) (shown .3, shown .4)) (shown .1, shown .5);
           emptyHanded = λ n. held [] (none n);
           restBlank = byOutcome (equal? (found .answer .outcome) 0);
         }
       where
         byOutcome : (found .answer .outcome ≡ 0) ⊎ (found .answer .outcome ≢ 0)
             → found .plan ≡ padded room noMove (partOf found)
-        byOutcome (inl e) = let shown = means .answered (means .solved .0 e .0 .0) .cheapestShown e in rest (shown .0) (shown .3, shown .4)
+        byOutcome (inl e) =
+            let shown = means .answered (means .solved .0 e .0 .0) .cheapestShown e in
+            rest (shown .0) (shown .3, shown .4)
         byOutcome (inr n) = rest [] (none n)
 
   -- the part of what a search leaves, for every query: the plan's rule numbers for outcome 0, otherwise empty

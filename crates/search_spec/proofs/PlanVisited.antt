@@ -1,4 +1,5 @@
--- Why pruning is safe: the cheapest plan of a query that is not refused is never pruned, so a search that visits the unpruned sequences alone meets it.
+-- Why pruning is safe: the cheapest plan of a query that is not refused is never pruned, so a search that visits the
+-- unpruned sequences alone meets it.
 -- Source document 000, Theorem 2, with both bounds, for rule sets and accepted tables.
 -- Assumes nothing.
 use mathlib.Core.Path.{_≡_, refl, sym, subst}
@@ -44,13 +45,25 @@ module _ (set : RuleSet) (query : Query) where
       fits = start-fits-iff set (query .start) .0 e
 
       size : length (startState query) ≡ 16
-      size = omega (arith, length-append (query .start) (replicate (16 - length (query .start)) 0), length-replicate {A = ℕ} (16 - length (query .start)) 0, fits .0, v .positionLimits)
+      size =
+          omega (
+            arith,
+            length-append (query .start) (replicate (16 - length (query .start)) 0),
+            length-replicate {A = ℕ} (16 - length (query .start)) 0,
+            fits .0,
+            v .positionLimits,
+          )
 
       below : (i : ℕ) → i < 16 → getD (startState query) i 0 < width (set .positions) (set .sizes) i
-      below i h = subst (λ n. n < width (set .positions) (set .sizes) i) (sym (padded-at (query .start) (16 - length (query .start)) i)) (at (below? i (set .positions)))
+      below i h =
+          subst (λ n. n < width (set .positions) (set .sizes) i)
+          (sym (padded-at (query .start) (16 - length (query .start)) i)) (at (below? i (set .positions)))
         where
-          at : (i < set .positions) ⊎ (set .positions ≤ i) → getD (query .start) i 0 < width (set .positions) (set .sizes) i
-          at (inl k) = subst (λ n. getD (query .start) i 0 < n) (sym (width-position (set .positions) (set .sizes) i k)) (fits .1 i k)
+          at : (i < set .positions) ⊎ (set .positions ≤ i)
+              → getD (query .start) i 0 < width (set .positions) (set .sizes) i
+          at (inl k) =
+              subst (λ n. getD (query .start) i 0 < n) (sym (width-position (set .positions) (set .sizes) i k))
+              (fits .1 i k)
           at (inr k) =
               let z = List·getD-eq-default (query .start) 0 {n = i} (omega (arith, fits .0)) in
               omega (arith, z, width-beyond (set .positions) (set .sizes) i k)
@@ -75,6 +88,8 @@ module _ (set : RuleSet) (query : Query) where
       visited-iff set query p .1 (
         cheapest-leads set query p e .0 .runsWithin,
         unpruned-iff set query p .0
-            (cheapest-not-pruned (stepOf set) (ruleCost set) (set .count) (StateOf set) (valid-closed set v) (marked set (query .reach) (query .table))
-            (accepted-justified set (query .reach) (query .table) (w .2)) (startState query) (meetsGoal (query .goal)) (query .maxMoves) (query .maxCost) p (start-state v (w .1)) e),
+            (cheapest-not-pruned (stepOf set) (ruleCost set) (set .count) (StateOf set) (valid-closed set v)
+            (marked set (query .reach) (query .table))
+            (accepted-justified set (query .reach) (query .table) (w .2)) (startState query) (meetsGoal (query .goal))
+            (query .maxMoves) (query .maxCost) p (start-state v (w .1)) e),
       )

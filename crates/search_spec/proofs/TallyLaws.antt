@@ -1,4 +1,5 @@
--- What the update of a tally means: each query adds 1 to just one of the first four counts, that of its outcome, unless that one is at its top, and its steps to their sum.
+-- What the update of a tally means: each query adds 1 to just one of the first four counts, that of its outcome, unless
+-- that one is at its top, and its steps to their sum.
 -- Assumes nothing.
 use mathlib.Core.Path.{_≡_, refl, ap, _∙_}
 use mathlib.Core.Logic.{_⊎_, inl, inr, _≢_}
@@ -26,17 +27,20 @@ module _ (tally : Tally) (outcome steps : ℕ) where
   unfolding talliedOf
   updated = go (equal? outcome 0) (equal? outcome 15) (equal? outcome 16)
     where
-      go : (outcome ≡ 0) ⊎ (outcome ≢ 0) → (outcome ≡ 15) ⊎ (outcome ≢ 15) → (outcome ≡ 16) ⊎ (outcome ≢ 16) → Updated (talliedOf tally outcome steps)
+      go : (outcome ≡ 0) ⊎ (outcome ≢ 0) → (outcome ≡ 15) ⊎ (outcome ≢ 15) → (outcome ≡ 16) ⊎ (outcome ≢ 16)
+          → Updated (talliedOf tally outcome steps)
       go (inl e) _ _ = rw e (0, lit< tt, refl, refl)
       go (inr _) (inl e) _ = rw e (1, lit< tt, refl, refl)
       go (inr _) (inr _) (inl e) = rw e (2, lit< tt, refl, refl)
-      go (inr l) (inr m) (inr n) = rw (ne-eqb outcome 0 l, ne-eqb outcome 15 m, ne-eqb outcome 16 n) (3, lit< tt, refl, refl)
+      go (inr l) (inr m) (inr n) =
+          rw (ne-eqb outcome 0 l, ne-eqb outcome 15 m, ne-eqb outcome 16 n) (3, lit< tt, refl, refl)
 
   pub one-raised : OneRaised tally (talliedOf tally outcome steps)
   one-raised =
       let i = updated .0 in
       let bound : i < 4 = updated .1 in
-      let own : countAt (talliedOf tally outcome steps) i ≡ raised (countAt tally i) 1 = at i ∙ getD-set-same (counts tally) i (raised (countAt tally i) 1) 0 (omega arith) in
+      let own : countAt (talliedOf tally outcome steps) i ≡ raised (countAt tally i) 1 = at i
+      ∙ getD-set-same (counts tally) i (raised (countAt tally i) 1) 0 (omega arith) in
       record {
         place = i;
         firstFour = bound;

@@ -1,4 +1,5 @@
--- What the lists of a query's definitions hold: the visited sequences are the unpruned ones that can be run within both bounds, and the plans are all sequences that lead to the goal within both.
+-- What the lists of a query's definitions hold: the visited sequences are the unpruned ones that can be run within both
+-- bounds, and the plans are all sequences that lead to the goal within both.
 -- Assumes nothing.
 use mathlib.Core.Path.{_≡_, ap, _∙_}
 use mathlib.Core.Logic.{_↔_, _≢_}
@@ -11,7 +12,8 @@ use Rattle.theory_spec.specs.Sequences.{Sequence, run, sequences, depthFirst}
 use Rattle.theory_spec.specs.Order.{Before}
 use Rattle.theory_spec.specs.Pruning.{pruned}
 use Rattle.theory_spec.specs.Plans.{isPlan, allowed, isVisited}
-use Rattle.theory_spec.proofs.ListLaws.{never-true, of-isSome, and-split, and-join, not-both, in-keep, of-keep, pairwise-keep}
+use Rattle.theory_spec.proofs.ListLaws.{never-true, of-isSome, and-split, and-join, not-both, in-keep, of-keep}
+use Rattle.theory_spec.proofs.ListLaws.{pairwise-keep}
 use Rattle.theory_spec.proofs.SequenceLaws.{of-sequences, in-sequences, of-depthFirst, in-depthFirst}
 use Rattle.theory_spec.proofs.OrderLaws.{sequences-ordered, depthFirst-distinct}
 use Rattle.theory_spec.proofs.PruningLaws.{pruned-segment, segment-pruned, of-plan, in-plan}
@@ -43,18 +45,22 @@ use Rattle.search_spec.specs.Query.{
 pub start-fits-iff : (set : RuleSet) (start : List ℕ) → (startFits set start ≡ true) ↔ StartFits set start
 unfolding startFits
 start-fits-iff set start =
-    and-iff _ _ (eqb-iff (length start) (set .positions)) (every-below-iff _ _ (λ i. ltb-iff (getD start i 0) (getD (set .sizes) i 0)) (set .positions))
+    and-iff _ _ (eqb-iff (length start) (set .positions))
+    (every-below-iff _ _ (λ i. ltb-iff (getD start i 0) (getD (set .sizes) i 0)) (set .positions))
 
 pub goal-fits-iff : (set : RuleSet) (goal : List ℕ) → (goalFits set goal ≡ true) ↔ GoalFits set goal
 unfolding goalFits
 goal-fits-iff set goal =
     and-iff _ _ (eqb-iff (length goal) (set .positions))
-    (every-below-iff _ _ (λ i. unless-iff _ _ (eqb-iff (getD goal i 0) anyValue) (ltb-iff (getD goal i 0) (getD (set .sizes) i 0))) (set .positions))
+    (every-below-iff _ _ (λ i. unless-iff _ _ (eqb-iff (getD goal i 0) anyValue)
+    (ltb-iff (getD goal i 0) (getD (set .sizes) i 0))) (set .positions))
 
 -- and so is the test of a state that meets the goal
 pub meetsGoal-iff : (goal : List ℕ) (s : State) → (meetsGoal goal s ≡ true) ↔ MeetsGoal goal s
 unfolding meetsGoal
-meetsGoal-iff goal s = every-below-iff _ _ (λ i. unless-iff _ _ (eqb-iff (getD goal i 0) anyValue) (eqb-iff (getD s i 0) (getD goal i 0))) (length goal)
+meetsGoal-iff goal s =
+    every-below-iff _ _ (λ i. unless-iff _ _ (eqb-iff (getD goal i 0) anyValue) (eqb-iff (getD s i 0) (getD goal i 0)))
+    (length goal)
 
 module _ (set : RuleSet) (query : Query) where
   abbrev marks : Sequence → Bool
@@ -71,10 +77,15 @@ module _ (set : RuleSet) (query : Query) where
   unpruned-iff q = (down, up)
     where
       down : pruned marks q ≡ false → Unpruned set query q
-      down h x b y e k m = not-both (ap (pruned marks) e ∙ segment-pruned marks x b y k (marked-iff set (query .reach) (query .table) b .1 m)) h
+      down h x b y e k m =
+          not-both (ap (pruned marks) e ∙ segment-pruned marks x b y k
+          (marked-iff set (query .reach) (query .table) b .1 m)) h
 
       up : Unpruned set query q → pruned marks q ≡ false
-      up h = never-true (pruned marks q) (λ e. let w = pruned-segment marks q e in h (w .2 .1 .0) (w .0) (w .2 .1 .1) (w .2 .1 .2) (w .2 .0) (marked-iff set (query .reach) (query .table) (w .0) .0 (w .1)))
+      up h =
+          never-true (pruned marks q) (λ e. let w = pruned-segment marks q e in
+          h (w .2 .1 .0) (w .0) (w .2 .1 .1) (w .2 .1 .2) (w .2 .0)
+          (marked-iff set (query .reach) (query .table) (w .0) .0 (w .1)))
 
   pub visited-iff : (q : Sequence) → (q ∈ visitedBy set query) ↔ (RunsWithin set query q × Unpruned set query q)
   unfolding visitedBy runIn sequenceCost
@@ -84,20 +95,26 @@ module _ (set : RuleSet) (query : Query) where
       down d =
           let w = of-keep visits (depthFirst (set .count) (query .maxMoves)) d in
           let inside = of-depthFirst (set .count) (query .maxMoves) (w .0) in
-          let both = and-split (isSome (run (stepOf set) q (startState query))) (allowed (ruleCost set) marks (query .maxCost) q) (w .1) in
+          let both = and-split (isSome (run (stepOf set) q (startState query)))
+          (allowed (ruleCost set) marks (query .maxCost) q) (w .1) in
           let end = of-isSome (run (stepOf set) q (startState query)) (both .0) in
-          let may = of-allowed (ruleCost set) marks (query .maxCost) q (both .1) in
-          (record { rules = inside .1; moves = inside .0; costs = may .0; end = end .0; runs = end .1 }, unpruned-iff q .0 (may .1))
+          let may = of-allowed (ruleCost set) marks (query .maxCost) q (both .1) in (
+            record { rules = inside .1; moves = inside .0; costs = may .0; end = end .0; runs = end .1 },
+            unpruned-iff q .0 (may .1),
+          )
 
       up : RunsWithin set query q × Unpruned set query q → q ∈ keep visits (depthFirst (set .count) (query .maxMoves))
       up h =
           in-keep visits (in-depthFirst (set .count) (query .maxMoves) q (h .0 .moves) (h .0 .rules))
-          (and-join (ap isSome (h .0 .runs)) (in-allowed (ruleCost set) marks (query .maxCost) q (h .0 .costs) (unpruned-iff q .1 (h .1))))
+          (and-join (ap isSome (h .0 .runs)) (in-allowed (ruleCost set) marks (query .maxCost) q (h .0 .costs)
+          (unpruned-iff q .1 (h .1))))
 
   -- no sequence is visited twice
   pub visited-once : Pairwise (λ (a b : Sequence). a ≢ b) (visitedBy set query)
   unfolding visitedBy
-  visited-once = pairwise-keep (λ (a b : Sequence). a ≢ b) visits (depthFirst (set .count) (query .maxMoves)) (depthFirst-distinct (set .count) (query .maxMoves))
+  visited-once =
+      pairwise-keep (λ (a b : Sequence). a ≢ b) visits (depthFirst (set .count) (query .maxMoves))
+      (depthFirst-distinct (set .count) (query .maxMoves))
 
   pub plans-iff : (q : Sequence) → (q ∈ plansFor set query) ↔ LeadsToGoal set query q
   unfolding plansFor runIn sequenceCost
@@ -107,15 +124,23 @@ module _ (set : RuleSet) (query : Query) where
       down d =
           let w = of-keep leads (sequences (set .count) (query .maxMoves)) d in
           let inside = of-sequences (set .count) (query .maxMoves) (w .0) in
-          let p = of-plan (stepOf set) (ruleCost set) (startState query) (meetsGoal (query .goal)) (query .maxCost) q (w .1) in
-          record { runsWithin = record { rules = inside .1; moves = inside .0; costs = p .3; end = p .0; runs = p .1 }; atGoal = meetsGoal-iff (query .goal) (p .0) .0 (p .2) }
+          let p = of-plan (stepOf set) (ruleCost set) (startState query) (meetsGoal (query .goal)) (query .maxCost) q
+          (w .1) in
+          record {
+            runsWithin = record { rules = inside .1; moves = inside .0; costs = p .3; end = p .0; runs = p .1 };
+            atGoal = meetsGoal-iff (query .goal) (p .0) .0 (p .2);
+          }
 
       up : LeadsToGoal set query q → q ∈ keep leads (sequences (set .count) (query .maxMoves))
       up h =
           in-keep leads (in-sequences (set .count) (query .maxMoves) q (h .runsWithin .moves) (h .runsWithin .rules))
-          (in-plan (stepOf set) (ruleCost set) (startState query) (meetsGoal (query .goal)) (query .maxCost) q (h .runsWithin .end) (h .runsWithin .runs) (meetsGoal-iff (query .goal) (h .runsWithin .end) .1 (h .atGoal)) (h .runsWithin .costs))
+          (in-plan (stepOf set) (ruleCost set) (startState query) (meetsGoal (query .goal)) (query .maxCost) q
+          (h .runsWithin .end) (h .runsWithin .runs)
+          (meetsGoal-iff (query .goal) (h .runsWithin .end) .1 (h .atGoal)) (h .runsWithin .costs))
 
   -- the plans stand in document 01's order
   pub plans-ordered : Pairwise Before (plansFor set query)
   unfolding plansFor
-  plans-ordered = pairwise-keep Before leads (sequences (set .count) (query .maxMoves)) (sequences-ordered (set .count) (query .maxMoves))
+  plans-ordered =
+      pairwise-keep Before leads (sequences (set .count) (query .maxMoves))
+      (sequences-ordered (set .count) (query .maxMoves))

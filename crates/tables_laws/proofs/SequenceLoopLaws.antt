@@ -40,7 +40,9 @@ sequence-go m (suc start) (suc rest) rules some more l =
     last = rest % m + 1
 
     written : drop start (set rules start last) ≡ last ∷ drop (suc start) rules
-    written = ap (drop start) (set-split rules start last l) ∙ drop-at (take start rules) (last ∷ drop (suc start) rules) start (length-take-le start rules (omega arith))
+    written =
+        ap (drop start) (set-split rules start last l)
+        ∙ drop-at (take start rules) (last ∷ drop (suc start) rules) start (length-take-le start rules (omega arith))
 
 -- no rule is left
 pub sequence-end : (m start rest : ℕ) → rest ≡ 0 → sequenceOf m start rest ≡ []

@@ -1,4 +1,5 @@
--- The turns of the loop that fills a table entry by entry. The invariant says of the bytes laid so far that with those still to come they make the whole.
+-- The turns of the loop that fills a table entry by entry. The invariant says of the bytes laid so far that with those
+-- still to come they make the whole.
 -- Assumes nothing.
 use mathlib.Core.Path.{_≡_}
 use mathlib.Core.List.{List, [], _∷_, _++_, append-nil}
@@ -12,7 +13,8 @@ use Rattle.model_spec.proofs.LoopLaws.{left-more, left-none}
 use Rattle.tables_spec.specs.Table.{entryBytes}
 
 -- one byte more is laid
-laid-more : (i b : ℕ) (table rest : List ℕ) → i < length table → take (i + 1) (set table i b) ++ rest ≡ take i table ++ (b ∷ rest)
+laid-more : (i b : ℕ) (table rest : List ℕ) → i < length table → take (i + 1) (set table i b) ++ rest ≡ take i table
+    ++ (b ∷ rest)
 laid-more i b table rest h = rw (add-one i, take-suc-set table i b h) (append-snoc (take i table) b rest)
 
 -- all are laid
@@ -34,7 +36,13 @@ module _ (f : ℕ → ℕ) (n : ℕ) where
       let low = entry % 256 in
       let high = entry / 256 in
       let rest : List ℕ = flat (λ j. entryBytes (f j)) (numbersFrom (i + 1) (n - (i + 1))) in
-      rw (next, laid-more (2 * i + 1) high (set table (2 * i) low) rest (omega (arith, length-set table (2 * i) low)), laid-more (2 * i) low table (high ∷ rest) (omega arith), left-more i n h, e)
+      rw (
+        next,
+        laid-more (2 * i + 1) high (set table (2 * i) low) rest (omega (arith, length-set table (2 * i) low)),
+        laid-more (2 * i) low table (high ∷ rest) (omega arith),
+        left-more i n h,
+        e,
+      )
 
   pub entered-all : (i : ℕ) (table : List ℕ) → n ≤ i → length table ≤ 2 * i → entered i table ≡ table
   entered-all i table h k = laid-all (2 * i) table _ k (rw (left-none i n h))

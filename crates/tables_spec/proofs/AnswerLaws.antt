@@ -1,4 +1,5 @@
--- What the builder and the check answer: which outcome each cause in turn has, and what it means; what a build leaves in the table, and that the table keeps its length;
+-- What the builder and the check answer: which outcome each cause in turn has, and what it means; what a build leaves
+-- in the table, and that the table keeps its length;
 -- that a built table passes the check.
 -- Assumes nothing.
 use mathlib.Core.Path.{_≡_, refl, sym, ap, _∙_}
@@ -20,9 +21,13 @@ use Rattle.model_spec.specs.declared.RuleSet.{RuleSet}
 use Rattle.model_spec.proofs.RefusalLaws.{refusal-append, refusal-before}
 use Rattle.model_spec.proofs.ValidityLaws.{valid-iff}
 use Rattle.tables_spec.specs.declared.TableSize.{TableSize}
-use Rattle.tables_spec.specs.Table.{tableEntries, kept, entryAt, builtTable, accepted, Marked, Prunable, LeastWitness, Accepted}
-use Rattle.tables_spec.specs.Answers.{reachCauses, shapeCauses, markCauses, sizeWith, builtWith, tableCauses, buildOutcome, builtBuffer, checkCauses, checkOutcome, ReachLimits, Ready, BuildMeaning, CheckMeaning}
-use Rattle.tables_spec.proofs.TableLaws.{accepted-iff, marked-iff, built-entry, built-length, built-least, built-marks-iff, built-accepted}
+use Rattle.tables_spec.specs.Table.{tableEntries, kept, entryAt, builtTable, accepted, Marked, Prunable}
+use Rattle.tables_spec.specs.Table.{LeastWitness, Accepted}
+use Rattle.tables_spec.specs.Answers.{reachCauses, shapeCauses, markCauses, sizeWith, builtWith, tableCauses}
+use Rattle.tables_spec.specs.Answers.{buildOutcome, builtBuffer, checkCauses, checkOutcome, ReachLimits, Ready}
+use Rattle.tables_spec.specs.Answers.{BuildMeaning, CheckMeaning}
+use Rattle.tables_spec.proofs.TableLaws.{accepted-iff, marked-iff, built-entry, built-length, built-least}
+use Rattle.tables_spec.proofs.TableLaws.{built-marks-iff, built-accepted}
 
 module _ (set : RuleSet) (reach size : ℕ) where
   -- ── The causes that all calls on a table share, and later ones ─────────────────────────────────
@@ -42,14 +47,17 @@ module _ (set : RuleSet) (reach size : ℕ) where
     unfolding tableCauses outcome
     judged = go (valid set) refl (within 1 3 reach) refl (eqb size (2 * tableEntries set reach)) refl
       where
-        go : (v : Bool) → valid set ≡ v → (r : Bool) → within 1 3 reach ≡ r → (s : Bool) → eqb size (2 * tableEntries set reach) ≡ s
+        go : (v : Bool) → valid set ≡ v → (r : Bool) → within 1 3 reach ≡ r → (s : Bool)
+            → eqb size (2 * tableEntries set reach) ≡ s
             → Judged (firstRefusal ((7, not v) ∷ (5, not r) ∷ (6, not s) ∷ later))
         go false e r _ s _ = invalid (λ v. not-both (valid-iff set .1 v) e)
         go true e false k s _ = unreached (valid-iff set .0 e) (λ h. not-both (within-iff 1 3 reach .1 h) k)
-        go true e true k false n = misfit (valid-iff set .0 e) (within-iff 1 3 reach .0 k) (λ h. not-both (eq-eqb size _ h) n)
+        go true e true k false n =
+            misfit (valid-iff set .0 e) (within-iff 1 3 reach .0 k) (λ h. not-both (eq-eqb size _ h) n)
         go true e true k true n = ready (valid-iff set .0 e, (within-iff 1 3 reach .0 k, eqb-true size _ n))
 
-    -- a number that no shared cause has is the outcome exactly if none of these holds, and it is the later causes' outcome
+    -- a number that no shared cause has is the outcome exactly if none of these holds, and it is the later causes'
+    -- outcome
     later-iff : (k : ℕ) → k ≢ 7 → k ≢ 5 → k ≢ 6 → (outcome ≡ k) ↔ (Ready set reach size × (firstRefusal later ≡ k))
     later-iff k h₇ h₅ h₆ = go judged
       where
@@ -96,7 +104,9 @@ module _ (set : RuleSet) (reach size : ℕ) where
   build-alone = refl
 
   pub build-ready-iff : (buildOutcome set reach size ≡ 0) ↔ Ready set reach size
-  build-ready-iff = let i = later-iff [] 0 (λ e. omega arith) (λ e. omega arith) (λ e. omega arith) in rw build-alone (λ e. i .0 e .0, λ w. i .1 (w, refl))
+  build-ready-iff =
+      let i = later-iff [] 0 (λ e. omega arith) (λ e. omega arith) (λ e. omega arith) in
+      rw build-alone (λ e. i .0 e .0, λ w. i .1 (w, refl))
 
   -- a build that is not refused leaves the built table
   pub built-whole : buildOutcome set reach size ≡ 0 → builtBuffer set reach size ≡ builtTable set reach
@@ -111,11 +121,13 @@ module _ (set : RuleSet) (reach size : ℕ) where
   -- the table keeps its length
   pub built-size : length (builtBuffer set reach size) ≡ size
   built-size =
-      ⊎-elim (λ e. ap length (built-whole e) ∙ built-length set reach ∙ sym (build-ready-iff .0 e .1 .1)) (λ h. ap length (built-refused h) ∙ length-replicate size 0)
+      ⊎-elim (λ e. ap length (built-whole e) ∙ built-length set reach ∙ sym (build-ready-iff .0 e .1 .1))
+      (λ h. ap length (built-refused h) ∙ length-replicate size 0)
       (equal? (buildOutcome set reach size) 0)
 
   -- the marks of the table that a build leaves are exactly those of prunable sequences
-  built-marks : buildOutcome set reach size ≡ 0 → (q : Sequence) → Marked set reach (builtBuffer set reach size) q ↔ Prunable set reach q
+  built-marks : buildOutcome set reach size ≡ 0 → (q : Sequence) → Marked set reach (builtBuffer set reach size) q
+      ↔ Prunable set reach q
   built-marks e q =
       let w = build-ready-iff .0 e in
       let m = marked-iff set reach (builtTable set reach) q in
@@ -123,7 +135,8 @@ module _ (set : RuleSet) (reach size : ℕ) where
       rw (built-whole e) (λ k. b .0 (m .1 k), λ p. m .0 (b .1 p))
 
   -- and each names the smallest index that will do
-  built-least-marks : buildOutcome set reach size ≡ 0 → (i : ℕ) → i < tableEntries set reach → entryAt (builtBuffer set reach size) i ≢ kept
+  built-least-marks : buildOutcome set reach size ≡ 0 → (i : ℕ) → i < tableEntries set reach
+      → entryAt (builtBuffer set reach size) i ≢ kept
       → LeastWitness set reach i (entryAt (builtBuffer set reach size) i)
   built-least-marks e i h = rw (built-whole e, built-entry set reach i h) (built-least set reach i h)
 
@@ -139,33 +152,41 @@ module _ (set : RuleSet) (reach size : ℕ) where
   }
 
   -- once the set is judged, what is left decides
-  pub build-judged : valid set ≡ true → (buildOutcome set reach size ≡ firstRefusal (shapeCauses set reach size)) × (builtBuffer set reach size ≡ builtWith set reach size (firstRefusal (shapeCauses set reach size)))
+  pub build-judged : valid set ≡ true → (buildOutcome set reach size ≡ firstRefusal (shapeCauses set reach size))
+      × (builtBuffer set reach size ≡ builtWith set reach size (firstRefusal (shapeCauses set reach size)))
   unfolding builtBuffer buildOutcome tableCauses
   build-judged v = (rw v, rw v)
 
-  pub shape-ready-iff : (firstRefusal (shapeCauses set reach size) ≡ 0) ↔ (ReachLimits reach × (size ≡ 2 * tableEntries set reach))
+  pub shape-ready-iff : (firstRefusal (shapeCauses set reach size) ≡ 0)
+      ↔ (ReachLimits reach × (size ≡ 2 * tableEntries set reach))
   shape-ready-iff = go (within 1 3 reach) refl (eqb size (2 * tableEntries set reach)) refl
     where
       go : (r : Bool) → within 1 3 reach ≡ r → (s : Bool) → eqb size (2 * tableEntries set reach) ≡ s
-          → (firstRefusal ((5, not r) ∷ (6, not s) ∷ []) ≡ 0) ↔ (ReachLimits reach × (size ≡ 2 * tableEntries set reach))
+          → (firstRefusal ((5, not r) ∷ (6, not s) ∷ []) ≡ 0)
+          ↔ (ReachLimits reach × (size ≡ 2 * tableEntries set reach))
       go false k s _ = (λ e. absurd (omega arith), λ w. not-both (within-iff 1 3 reach .1 (w .0)) k)
       go true k false n = (λ e. absurd (omega arith), λ w. not-both (eq-eqb size _ (w .1)) n)
       go true k true n = (λ _. (within-iff 1 3 reach .0 k, eqb-true size _ n), λ _. refl)
 
   -- a table without a length is refused for the same cause
-  pub shape-refused : firstRefusal (reachCauses reach) ≢ 0 → firstRefusal (shapeCauses set reach size) ≡ firstRefusal (reachCauses reach)
+  pub shape-refused : firstRefusal (reachCauses reach) ≢ 0
+      → firstRefusal (shapeCauses set reach size) ≡ firstRefusal (reachCauses reach)
   shape-refused h = refusal-before (reachCauses reach) ((6, not (eqb size (2 * tableEntries set reach))) ∷ []) h
 
   -- else its length decides
-  module _ (told : TableSize) (is : told ≡ sizeWith set reach (firstRefusal (reachCauses reach))) (given : told .outcome ≡ 0) where
+  module _ (told : TableSize) (is : told ≡ sizeWith set reach (firstRefusal (reachCauses reach)))
+      (given : told .outcome ≡ 0) where
     reached : firstRefusal (reachCauses reach) ≡ 0
     reached = sym (ap (λ (t : TableSize). t .outcome) is) ∙ given
 
     told-length : told .length ≡ 2 * tableEntries set reach
     told-length = ap (λ (t : TableSize). t .length) is ∙ rw reached
 
-    past-reach : firstRefusal (shapeCauses set reach size) ≡ firstRefusal ((6, not (eqb size (2 * tableEntries set reach))) ∷ [])
-    past-reach = refusal-append (reachCauses reach) ((6, not (eqb size (2 * tableEntries set reach))) ∷ []) (λ e. omega arith, tt) reached
+    past-reach : firstRefusal (shapeCauses set reach size)
+        ≡ firstRefusal ((6, not (eqb size (2 * tableEntries set reach))) ∷ [])
+    past-reach =
+        refusal-append (reachCauses reach) ((6, not (eqb size (2 * tableEntries set reach))) ∷ [])
+        (λ e. omega arith, tt) reached
 
     pub shape-misfit : size ≢ told .length → firstRefusal (shapeCauses set reach size) ≡ 6
     shape-misfit h = past-reach ∙ rw (ne-eqb size (2 * tableEntries set reach) (λ e. h (e ∙ sym told-length)))
@@ -174,10 +195,12 @@ module _ (set : RuleSet) (reach size : ℕ) where
     shape-fits h = past-reach ∙ rw (eq-eqb size (2 * tableEntries set reach) (h ∙ told-length))
 
   -- what a build leaves
-  pub with-built : firstRefusal (shapeCauses set reach size) ≡ 0 → builtWith set reach size (firstRefusal (shapeCauses set reach size)) ≡ builtTable set reach
+  pub with-built : firstRefusal (shapeCauses set reach size) ≡ 0
+      → builtWith set reach size (firstRefusal (shapeCauses set reach size)) ≡ builtTable set reach
   with-built e = ap (builtWith set reach size) e
 
-  pub with-refused : firstRefusal (shapeCauses set reach size) ≢ 0 → builtWith set reach size (firstRefusal (shapeCauses set reach size)) ≡ replicate size 0
+  pub with-refused : firstRefusal (shapeCauses set reach size) ≢ 0
+      → builtWith set reach size (firstRefusal (shapeCauses set reach size)) ≡ replicate size 0
   with-refused h = rw (ne-eqb (firstRefusal (shapeCauses set reach size)) 0 h)
 
 -- ── The check ────────────────────────────────────────────────────────────────────────────────────
@@ -191,13 +214,18 @@ module _ (set : RuleSet) (reach : ℕ) (table : List ℕ) where
   check-outcome = refl
 
   -- once the set is judged, the shape decides, and then the marks
-  pub marks-refused : firstRefusal (shapeCauses set reach (length table)) ≢ 0 → firstRefusal (markCauses set reach table) ≡ firstRefusal (shapeCauses set reach (length table))
+  pub marks-refused : firstRefusal (shapeCauses set reach (length table)) ≢ 0
+      → firstRefusal (markCauses set reach table) ≡ firstRefusal (shapeCauses set reach (length table))
   marks-refused h = refusal-before (shapeCauses set reach (length table)) ((14, not (accepted set reach table)) ∷ []) h
 
-  pub marks-decide : firstRefusal (shapeCauses set reach (length table)) ≡ 0 → (b : Bool) → accepted set reach table ≡ b → firstRefusal (markCauses set reach table) ≡ cond b 0 14
-  marks-decide z b e = refusal-append (shapeCauses set reach (length table)) ((14, not (accepted set reach table)) ∷ []) (λ e. omega arith, (λ e. omega arith, tt)) z ∙ go b e
+  pub marks-decide : firstRefusal (shapeCauses set reach (length table)) ≡ 0 → (b : Bool) → accepted set reach table ≡ b
+      → firstRefusal (markCauses set reach table) ≡ cond b 0 14
+  marks-decide z b e =
+      refusal-append (shapeCauses set reach (length table)) ((14, not (accepted set reach table)) ∷ [])
+      (λ e. omega arith, (λ e. omega arith, tt)) z ∙ go b e
     where
-      go : (b : Bool) → accepted set reach table ≡ b → firstRefusal ((14, not (accepted set reach table)) ∷ []) ≡ cond b 0 14
+      go : (b : Bool) → accepted set reach table ≡ b
+          → firstRefusal ((14, not (accepted set reach table)) ∷ []) ≡ cond b 0 14
       go true e = rw e
       go false e = rw e
 
@@ -209,7 +237,8 @@ module _ (set : RuleSet) (reach : ℕ) (table : List ℕ) where
   unfolding judgement
   refused-iff = go (accepted set reach table) refl
     where
-      go : (b : Bool) → accepted set reach table ≡ b → (firstRefusal ((14, not b) ∷ []) ≡ 14) ↔ (Accepted set reach table → ⊥)
+      go : (b : Bool) → accepted set reach table ≡ b → (firstRefusal ((14, not b) ∷ []) ≡ 14)
+          ↔ (Accepted set reach table → ⊥)
       go true e = (λ k. absurd (omega arith), λ n. absurd (n (accepted-iff set reach table .0 e)))
       go false e = (λ _ a. not-both (accepted-iff set reach table .1 a) e, λ _. refl)
 
@@ -232,8 +261,10 @@ module _ (set : RuleSet) (reach : ℕ) (table : List ℕ) where
 
   pub check-meaning : CheckMeaning set reach table (checkOutcome set reach table)
   check-meaning =
-      let no = later-iff set reach (length table) judgement 14 (λ e. omega arith) (λ e. omega arith) (λ e. omega arith) in
-      let yes = later-iff set reach (length table) judgement 0 (λ e. omega arith) (λ e. omega arith) (λ e. omega arith) in
+      let no = later-iff set reach (length table) judgement 14 (λ e. omega arith) (λ e. omega arith)
+      (λ e. omega arith) in
+      let yes = later-iff set reach (length table) judgement 0 (λ e. omega arith) (λ e. omega arith)
+      (λ e. omega arith) in
       rw check-outcome (record {
         notValid = invalid-iff set reach (length table) judgement (apart 7 (λ e. omega arith) (λ e. omega arith));
         badReach = unreached-iff set reach (length table) judgement (apart 5 (λ e. omega arith) (λ e. omega arith));
@@ -243,7 +274,11 @@ module _ (set : RuleSet) (reach : ℕ) (table : List ℕ) where
       })
 
 -- a build that is not refused gives a table that the check passes
-pub built-checks : (set : RuleSet) (reach size : ℕ) → buildOutcome set reach size ≡ 0 → checkOutcome set reach (builtTable set reach) ≡ 0
+pub built-checks : (set : RuleSet) (reach size : ℕ) → buildOutcome set reach size ≡ 0
+    → checkOutcome set reach (builtTable set reach) ≡ 0
 built-checks set reach size e =
     let w = build-ready-iff set reach size .0 e in
-    check-meaning set reach (builtTable set reach) .accepts .1 ((w .0, (w .1 .0, built-length set reach)), accepted-iff set reach (builtTable set reach) .0 (built-accepted set reach))
+    check-meaning set reach (builtTable set reach) .accepts .1 (
+      (w .0, (w .1 .0, built-length set reach)),
+      accepted-iff set reach (builtTable set reach) .0 (built-accepted set reach),
+    )

@@ -1,4 +1,5 @@
--- Laws of S, the number of sequences of at most `reach` of m rules: it counts them, it is at most 30784, and it bounds their indices with one more rule.
+-- Laws of S, the number of sequences of at most `reach` of m rules: it counts them, it is at most 30784, and it bounds
+-- their indices with one more rule.
 -- Assumes nothing.
 use mathlib.Core.Path.{_≡_, refl, sym, ap, ap₂, _∙_}
 use Prim.Native.Nat.{ℕ, zero, suc, _+_, _*_, _^_, _≤_, _<_}
@@ -13,7 +14,9 @@ use Rattle.tables_spec.specs.Table.{sequenceCount}
 
 -- m ^ n sequences have exactly n of m rules
 level-count : (m n : ℕ) → length (level m n) ≡ m ^ n
-level-count m n = sym (length-map (level m n) (indexOf m)) ∙ ap length (level-indices m n) ∙ length-numbersFrom (levelStart m n) (levelCount m n) ∙ size n
+level-count m n =
+    sym (length-map (level m n) (indexOf m)) ∙ ap length (level-indices m n)
+    ∙ length-numbersFrom (levelStart m n) (levelCount m n) ∙ size n
   where
     size : (n : ℕ) → levelCount m n ≡ m ^ n
     size zero = sym (pow-zero m)
@@ -22,7 +25,9 @@ level-count m n = sym (length-map (level m n) (indexOf m)) ∙ ap length (level-
 -- S counts the sequences of at most `reach` of m rules
 pub count-sequences : (m reach : ℕ) → length (sequences m reach) ≡ sequenceCount m reach
 count-sequences m zero = refl
-count-sequences m (suc reach) = length-append (sequences m reach) (level m (suc reach)) ∙ ap₂ _+_ (count-sequences m reach) (level-count m (suc reach))
+count-sequences m (suc reach) =
+    length-append (sequences m reach) (level m (suc reach))
+    ∙ ap₂ _+_ (count-sequences m reach) (level-count m (suc reach))
 
 -- S is the index of the first longer sequence
 pub count-levels : (m n : ℕ) → sequenceCount m n ≡ levelStart m (suc n)

@@ -1,4 +1,5 @@
--- How long a table is: which outcome each cause in turn has, and what it means; a build with a table of that length, and of no other, is not refused.
+-- How long a table is: which outcome each cause in turn has, and what it means; a build with a table of that length,
+-- and of no other, is not refused.
 -- Assumes nothing.
 use mathlib.Core.Path.{_≡_, refl, sym, _∙_}
 use mathlib.Core.Logic.{_↔_, _≢_}
@@ -32,7 +33,8 @@ module _ (set : RuleSet) (reach : ℕ) where
   size-answered = go (valid set) refl (within 1 3 reach) refl
     where
       go : (v : Bool) → valid set ≡ v → (r : Bool) → within 1 3 reach ≡ r
-          → (let outcome = firstRefusal ((7, not v) ∷ (5, not r) ∷ []) in Sized (record { outcome = outcome; length = cond (eqb outcome 0) (2 * tableEntries set reach) 0 }))
+          → (let outcome = firstRefusal ((7, not v) ∷ (5, not r) ∷ []) in
+          Sized (record { outcome = outcome; length = cond (eqb outcome 0) (2 * tableEntries set reach) 0 }))
       go false e r _ = invalid (λ v. not-both (valid-iff set .1 v) e)
       go true e false k = unreached (valid-iff set .0 e) (λ h. not-both (within-iff 1 3 reach .1 h) k)
       go true e true k = given (valid-iff set .0 e) (within-iff 1 3 reach .0 k)
@@ -83,11 +85,13 @@ module _ (set : RuleSet) (reach : ℕ) where
       }
 
   -- a refusal
-  pub size-refused : (n : ℕ) → n ≢ 0 → tableSize set reach .outcome ≡ n → tableSize set reach ≡ record { outcome = n; length = 0 }
+  pub size-refused : (n : ℕ) → n ≢ 0 → tableSize set reach .outcome ≡ n
+      → tableSize set reach ≡ record { outcome = n; length = 0 }
   size-refused n h e = let z = size-meaning .refused (λ k. h (sym e ∙ k)) in λ i. record { outcome = e i; length = z i }
 
   -- a build is not refused exactly if the table has the length that is told
-  pub size-builds-iff : (size : ℕ) → (buildOutcome set reach size ≡ 0) ↔ ((tableSize set reach .outcome ≡ 0) × (size ≡ tableSize set reach .length))
+  pub size-builds-iff : (size : ℕ) → (buildOutcome set reach size ≡ 0)
+      ↔ ((tableSize set reach .outcome ≡ 0) × (size ≡ tableSize set reach .length))
   size-builds-iff size =
       let m = size-meaning in
       let b = build-ready-iff set reach size in (

@@ -1,4 +1,5 @@
--- `cheapest` gives the first sequence of least cost, and in a list in document 01's order it is preferred to every other.
+-- `cheapest` gives the first sequence of least cost, and in a list in document 01's order it is preferred to every
+-- other.
 -- Assumes nothing.
 use mathlib.Core.Path.{_≡_, refl, sym, ap, _∙_, subst}
 use mathlib.Core.Logic.{_⊎_, inl, inr, _≢_}
@@ -25,7 +26,8 @@ module _ (cost : ℕ → ℕ) where
   pub preferred-of : (p q : Sequence) → costOf cost p ≤ costOf cost q → Before p q → Preferred cost p q
   preferred-of p q h k = go (passes? (ltb (costOf cost p) (costOf cost q)))
     where
-      go : (ltb (costOf cost p) (costOf cost q) ≡ true) ⊎ (ltb (costOf cost p) (costOf cost q) ≡ false) → Preferred cost p q
+      go : (ltb (costOf cost p) (costOf cost q) ≡ true) ⊎ (ltb (costOf cost p) (costOf cost q) ≡ false)
+          → Preferred cost p q
       go (inl e) = inl (ltb-true (costOf cost p) (costOf cost q) e)
       go (inr e) = let l = ltb-false (costOf cost p) (costOf cost q) e in inr (omega arith, k)
 
@@ -69,7 +71,8 @@ module _ (cost : ℕ → ℕ) where
   abbrev pub FirstLeast : List Sequence → Sequence → Type 0
   FirstLeast l p =
       (x : List Sequence) × (y : List Sequence) × (l ≡ x ++ (p ∷ y))
-      × ((q : Sequence) → q ∈ x → costOf cost p < costOf cost q) × ((q : Sequence) → q ∈ y → costOf cost p ≤ costOf cost q)
+      × ((q : Sequence) → q ∈ x → costOf cost p < costOf cost q)
+      × ((q : Sequence) → q ∈ y → costOf cost p ≤ costOf cost q)
 
   -- what `cheapest` gives is that
   pub cheapest-first : (l : List Sequence) (p : Sequence) → cheapest cost l ≡ some p → FirstLeast l p
@@ -84,27 +87,42 @@ module _ (cost : ℕ → ℕ) where
           at (inr (List·Memᴰ·head e′)) = let k = ap (costOf cost) e′ in omega arith
           at (inr (List·Memᴰ·tail d′)) = w .4 q d′
 
-      dearer : (c : Sequence) (u : List Sequence) → ((q : Sequence) → q ∈ u → costOf cost c < costOf cost q) → costOf cost c < costOf cost x
+      dearer : (c : Sequence) (u : List Sequence) → ((q : Sequence) → q ∈ u → costOf cost c < costOf cost q)
+          → costOf cost c < costOf cost x
           → (q : Sequence) → q ∈ x ∷ u → costOf cost c < costOf cost q
       dearer c u h k q (List·Memᴰ·head e′) = let f = ap (costOf cost) e′ in omega arith
       dearer c u h k q (List·Memᴰ·tail d) = h q d
 
-      choose : (c : Sequence) → FirstLeast xs c → (b : Bool) → leb (costOf cost x) (costOf cost c) ≡ b → cond b (some x) (some c) ≡ some p → FirstLeast (x ∷ xs) p
+      choose : (c : Sequence) → FirstLeast xs c → (b : Bool) → leb (costOf cost x) (costOf cost c) ≡ b
+          → cond b (some x) (some c) ≡ some p → FirstLeast (x ∷ xs) p
       choose c w true h e′ =
           let k = leb-true (costOf cost x) (costOf cost c) h in
-          subst (FirstLeast (x ∷ xs)) (Option·some-injective x p e′) ([], xs, refl, λ q d. absurd (List·Memᴰ·not-nil d), λ q d. let f = no-more c w q d in omega arith)
-      choose c w false h e′ =
-          subst (FirstLeast (x ∷ xs)) (Option·some-injective c p e′)
-          (x ∷ w .0, w .1, ap {B = List Sequence} (λ l. x ∷ l) (w .2), dearer c (w .0) (w .3) (leb-false (costOf cost x) (costOf cost c) h), w .4)
-
-      go : (c : Option Sequence) → cheapest cost xs ≡ c → cheaper cost x c ≡ some p → ((c : Sequence) → cheapest cost xs ≡ some c → FirstLeast xs c) → FirstLeast (x ∷ xs) p
-      go none h e′ ih =
           subst (FirstLeast (x ∷ xs)) (Option·some-injective x p e′)
-          ([], xs, refl, λ q d. absurd (List·Memᴰ·not-nil d), λ q d. absurd (List·Memᴰ·not-nil (subst (λ l. q ∈ l) (cheapest-none xs h) d)))
+          ([], xs, refl, λ q d. absurd (List·Memᴰ·not-nil d), λ q d. let f = no-more c w q d in omega arith)
+      choose c w false h e′ =
+          subst (FirstLeast (x ∷ xs)) (Option·some-injective c p e′) (
+            x ∷ w .0,
+            w .1,
+            ap {B = List Sequence} (λ l. x ∷ l) (w .2),
+            dearer c (w .0) (w .3) (leb-false (costOf cost x) (costOf cost c) h),
+            w .4,
+          )
+
+      go : (c : Option Sequence) → cheapest cost xs ≡ c → cheaper cost x c ≡ some p
+          → ((c : Sequence) → cheapest cost xs ≡ some c → FirstLeast xs c) → FirstLeast (x ∷ xs) p
+      go none h e′ ih =
+          subst (FirstLeast (x ∷ xs)) (Option·some-injective x p e′) (
+            [],
+            xs,
+            refl,
+            λ q d. absurd (List·Memᴰ·not-nil d),
+            λ q d. absurd (List·Memᴰ·not-nil (subst (λ l. q ∈ l) (cheapest-none xs h) d)),
+          )
       go (some c) h e′ ih = choose c (ih c h) (leb (costOf cost x) (costOf cost c)) refl e′
 
   -- in a list in length-lexicographic order, the cheapest sequence is preferred to every other
-  pub cheapest-least : (l : List Sequence) → Pairwise Before l → (p : Sequence) → cheapest cost l ≡ some p → Least cost l p
+  pub cheapest-least : (l : List Sequence) → Pairwise Before l → (p : Sequence) → cheapest cost l ≡ some p
+      → Least cost l p
   cheapest-least l o p e = (subst (λ k. p ∈ k) (sym (w .2)) (Memᴰ·append-right (w .0) (here p (w .1))), others)
     where
       w : FirstLeast l p
@@ -113,7 +131,9 @@ module _ (cost : ℕ → ℕ) where
       at : (q : Sequence) → (q ∈ w .0) ⊎ (q ∈ p ∷ w .1) → (q ≡ p) ⊎ Preferred cost p q
       at q (inl d) = inr (inl (w .3 q d))
       at q (inr (List·Memᴰ·head e′)) = inl e′
-      at q (inr (List·Memᴰ·tail d)) = inr (preferred-of p q (w .4 q d) (pairwise-behind Before (w .0) p (w .1) (subst (Pairwise Before) (w .2) o) q d))
+      at q (inr (List·Memᴰ·tail d)) =
+          inr (preferred-of p q (w .4 q d) (pairwise-behind Before (w .0) p (w .1)
+          (subst (Pairwise Before) (w .2) o) q d))
 
       others : (q : Sequence) → q ∈ l → (q ≡ p) ⊎ Preferred cost p q
       others q d = at q (List·Memᴰ·append-cases (w .0) (subst (λ k. q ∈ k) (w .2) d))

@@ -1,4 +1,5 @@
--- Where the search is over its limit: the least cost among what it did not look at is the least cost among the extensions, by one rule, of what it did.
+-- Where the search is over its limit: the least cost among what it did not look at is the least cost among the
+-- extensions, by one rule, of what it did.
 -- Assumes nothing.
 use mathlib.Core.Path.{_≡_, refl, sym, ap, _∙_, subst}
 use mathlib.Core.Logic.{_⊎_, inl, inr}
@@ -11,7 +12,8 @@ use lib.ListN.{take}
 use Rattle.theory_spec.specs.Lists.{_∈_, same, Pairwise}
 use Rattle.theory_spec.specs.Sequences.{Sequence, costOf}
 use Rattle.theory_spec.specs.how.Recursion.{leastCost, initial, isIn, frontier}
-use Rattle.theory_spec.proofs.ListLaws.{here, in-keep, of-keep, any-true, true-any, same-true, same-refl, passes?, not-both}
+use Rattle.theory_spec.proofs.ListLaws.{here, in-keep, of-keep, any-true, true-any, same-true, same-refl}
+use Rattle.theory_spec.proofs.ListLaws.{passes?, not-both}
 use Rattle.theory_spec.proofs.SequenceLaws.{cost-append}
 
 initial-snoc : (x : Sequence) (r : ℕ) → initial (x ++ (r ∷ [])) ≡ x
@@ -38,7 +40,8 @@ module _ (cost : ℕ → ℕ) (c : ℕ) where
   least-below [] d = absurd (List·Memᴰ·not-nil d)
 
   -- a bound of c and of each is a bound of the least
-  pub least-greatest : (b : ℕ) (l : List Sequence) → b ≤ c → ((q : Sequence) → q ∈ l → b ≤ costOf cost q) → b ≤ leastCost cost c l
+  pub least-greatest : (b : ℕ) (l : List Sequence) → b ≤ c → ((q : Sequence) → q ∈ l → b ≤ costOf cost q)
+      → b ≤ leastCost cost c l
   least-greatest b [] h k = h
   least-greatest b (q ∷ l) h k = omega (arith, k q (here q l), least-greatest b l h (λ p d. k p (List·Memᴰ·tail d)))
 
@@ -51,7 +54,8 @@ least-min cost c x (q ∷ l) = omega (arith, least-min cost c x l)
 
 -- from x, which is looked at, to x ++ y, which is not, there is a first that is not
 crossing : (looked : List Sequence) (x y : Sequence) → x ∈ looked → isIn looked (x ++ y) ≡ false
-    → (u : Sequence) × (r : ℕ) × (v : Sequence) × ((x ++ y) ≡ (u ++ (r ∷ []) ++ v)) × (u ∈ looked) × (isIn looked (u ++ (r ∷ [])) ≡ false)
+    → (u : Sequence) × (r : ℕ) × (v : Sequence) × ((x ++ y) ≡ (u ++ (r ∷ []) ++ v)) × (u ∈ looked)
+    × (isIn looked (u ++ (r ∷ [])) ≡ false)
 crossing looked x [] d h = not-both (in-is d) (ap (isIn looked) (sym (append-nil x)) ∙ h)
 crossing looked x (r ∷ y) d h = go (passes? (isIn looked (x ++ (r ∷ [])))) (crossing looked (x ++ (r ∷ [])) y)
   where
@@ -60,8 +64,10 @@ crossing looked x (r ∷ y) d h = go (passes? (isIn looked (x ++ (r ∷ [])))) (
 
     go : (isIn looked (x ++ (r ∷ [])) ≡ true) ⊎ (isIn looked (x ++ (r ∷ [])) ≡ false)
         → ((x ++ (r ∷ [])) ∈ looked → isIn looked ((x ++ (r ∷ [])) ++ y) ≡ false
-        → (u : Sequence) × (s : ℕ) × (v : Sequence) × (((x ++ (r ∷ [])) ++ y) ≡ (u ++ (s ∷ []) ++ v)) × (u ∈ looked) × (isIn looked (u ++ (s ∷ [])) ≡ false))
-        → (u : Sequence) × (s : ℕ) × (v : Sequence) × ((x ++ (r ∷ y)) ≡ (u ++ (s ∷ []) ++ v)) × (u ∈ looked) × (isIn looked (u ++ (s ∷ [])) ≡ false)
+        → (u : Sequence) × (s : ℕ) × (v : Sequence) × (((x ++ (r ∷ [])) ++ y) ≡ (u ++ (s ∷ []) ++ v)) × (u ∈ looked)
+        × (isIn looked (u ++ (s ∷ [])) ≡ false))
+        → (u : Sequence) × (s : ℕ) × (v : Sequence) × ((x ++ (r ∷ y)) ≡ (u ++ (s ∷ []) ++ v)) × (u ∈ looked)
+        × (isIn looked (u ++ (s ∷ [])) ≡ false)
     go (inl t) ih =
         let w = ih (is-in looked (x ++ (r ∷ [])) t) (ap (isIn looked) (sym e) ∙ h) in
         (w .0, w .1, w .2, e ∙ w .3, w .4, w .5)
@@ -71,12 +77,17 @@ crossing looked x (r ∷ y) d h = go (passes? (isIn looked (x ++ (r ∷ [])))) (
 module _ (cost : ℕ → ℕ) (looked rest : List Sequence) (first : [] ∈ looked)
     (closed : (x y : Sequence) → (x ++ y) ∈ (looked ++ rest) → x ∈ (looked ++ rest)) where
   -- what is not looked at has a front that is one rule more than one looked at
-  pub front-of : (q : Sequence) → q ∈ (looked ++ rest) → isIn looked q ≡ false → (p : Sequence) × (p ∈ frontier looked rest) × (costOf cost p ≤ costOf cost q)
+  pub front-of : (q : Sequence) → q ∈ (looked ++ rest) → isIn looked q ≡ false → (p : Sequence)
+      × (p ∈ frontier looked rest) × (costOf cost p ≤ costOf cost q)
   front-of q d h =
       let w = crossing looked [] q first h in
       let p = w .0 ++ (w .1 ∷ []) in
-      let member = closed p (w .2) (subst (λ (l : Sequence). l ∈ (looked ++ rest)) (w .3) d) in
-      (p, in-keep (λ q. isIn looked (initial q)) (unlooked p member (w .5)) (ap (isIn looked) (initial-snoc (w .0) (w .1)) ∙ in-is (w .4)), omega (arith, cost-append cost p (w .2), ap (costOf cost) (w .3)))
+      let member = closed p (w .2) (subst (λ (l : Sequence). l ∈ (looked ++ rest)) (w .3) d) in (
+        p,
+        in-keep (λ q. isIn looked (initial q)) (unlooked p member (w .5))
+            (ap (isIn looked) (initial-snoc (w .0) (w .1)) ∙ in-is (w .4)),
+        omega (arith, cost-append cost p (w .2), ap (costOf cost) (w .3)),
+      )
     where
       unlooked : (p : Sequence) → p ∈ (looked ++ rest) → isIn looked p ≡ false → p ∈ rest
       unlooked p m f = pick (List·Memᴰ·append-cases looked m)
@@ -86,12 +97,15 @@ module _ (cost : ℕ → ℕ) (looked rest : List Sequence) (first : [] ∈ look
           pick (inr b) = b
 
   -- so the least cost among all that is not looked at is the least among those
-  pub least-frontier : ((q : Sequence) → q ∈ rest → isIn looked q ≡ false) → (c : ℕ) → leastCost cost c rest ≡ leastCost cost c (frontier looked rest)
+  pub least-frontier : ((q : Sequence) → q ∈ rest → isIn looked q ≡ false) → (c : ℕ)
+      → leastCost cost c rest ≡ leastCost cost c (frontier looked rest)
   least-frontier apart c =
-      let down = least-greatest cost c (leastCost cost c rest) (frontier looked rest) (least-start cost c rest) (λ q d. least-below cost c rest (of-keep (λ q. isIn looked (initial q)) rest d .0)) in
+      let down = least-greatest cost c (leastCost cost c rest) (frontier looked rest) (least-start cost c rest)
+      (λ q d. least-below cost c rest (of-keep (λ q. isIn looked (initial q)) rest d .0)) in
       let up =
       least-greatest cost c (leastCost cost c (frontier looked rest)) rest (least-start cost c (frontier looked rest))
-      (λ q d. let w = front-of q (Memᴰ·append-right looked d) (apart q d) in omega (arith, least-below cost c (frontier looked rest) (w .1), w .2)) in
+      (λ q d. let w = front-of q (Memᴰ·append-right looked d) (apart q d) in
+      omega (arith, least-below cost c (frontier looked rest) (w .1), w .2)) in
       omega arith
 
 -- ── The first of a list ──────────────────────────────────────────────────────────────────────────

@@ -1,17 +1,20 @@
--- Laws of tests and of lists, as far as the libraries do not have them in this form. A test is a `Bool`; it passes where it is `≡ true`.
+-- Laws of tests and of lists, as far as the libraries do not have them in this form. A test is a `Bool`; it passes
+-- where it is `≡ true`.
 -- Assumes nothing.
 use mathlib.Core.Path.{_≡_, refl, sym, ap, ap₂, _∙_, subst}
 use mathlib.Core.Logic.{_⊎_, inl, inr}
 use mathlib.Core.Bool.{Bool, true, false, _&&_, _||_, true≢false, false≢true, or-assoc}
 use mathlib.Core.Option.{Option, some, none}
 use mathlib.Core.List.{List, [], _∷_, _++_, map, append-assoc, map-append}
-use mathlib.Core.List.{List·Memᴰ·head, List·Memᴰ·tail, Memᴰ·append-left, Memᴰ·append-right, List·Memᴰ·append-cases, Memᴰ·of-map}
+use mathlib.Core.List.{List·Memᴰ·head, List·Memᴰ·tail, Memᴰ·append-left, Memᴰ·append-right, List·Memᴰ·append-cases}
+use mathlib.Core.List.{Memᴰ·of-map}
 use Prim.Native.Nat.{ℕ, zero, suc, _+_, _-_, _≤_, _<_}
 use lib.Dec.{eqb}
 use borrow.Author.Tests.{eqb-true, eqb-false, eq-eqb}
 use native.Mathlib.Omega.{arith}
 use lib.ListN.{length, getD, replicate, length-append, length-replicate}
-use Rattle.theory_spec.specs.Lists.{_∈_, keepIf, keep, any, every, Pairwise, isSome, padded, flat, foldOver, numbersFrom, same}
+use Rattle.theory_spec.specs.Lists.{_∈_, keepIf, keep, any, every, Pairwise, isSome, padded, flat, foldOver}
+use Rattle.theory_spec.specs.Lists.{numbersFrom, same}
 
 -- ── Tests ────────────────────────────────────────────────────────────────────────────────────────
 
@@ -74,7 +77,8 @@ module _ {A : Type 0} where
   of-keep p [] d = elim d [ ]
   of-keep p {a} (x ∷ xs) d = go (p x) refl d (of-keep p xs)
     where
-      go : (b : Bool) → p x ≡ b → a ∈ keepIf b x (keep p xs) → (a ∈ keep p xs → (a ∈ xs) × (p a ≡ true)) → (a ∈ x ∷ xs) × (p a ≡ true)
+      go : (b : Bool) → p x ≡ b → a ∈ keepIf b x (keep p xs) → (a ∈ keep p xs → (a ∈ xs) × (p a ≡ true)) → (a ∈ x ∷ xs)
+          × (p a ≡ true)
       go true q (List·Memᴰ·head e) ih = (List·Memᴰ·head e, ap p e ∙ q)
       go true q (List·Memᴰ·tail d′) ih = (List·Memᴰ·tail (ih d′ .0), ih d′ .1)
       go false q d′ ih = (List·Memᴰ·tail (ih d′ .0), ih d′ .1)
@@ -87,7 +91,8 @@ module _ {A : Type 0} where
   any-true p [] h = absurd (false≢true h)
   any-true p (x ∷ xs) h = go (or-split (p x) (any p xs) h) (any-true p xs)
     where
-      go : (p x ≡ true) ⊎ (any p xs ≡ true) → (any p xs ≡ true → (a : A) × (a ∈ xs) × (p a ≡ true)) → (a : A) × (a ∈ x ∷ xs) × (p a ≡ true)
+      go : (p x ≡ true) ⊎ (any p xs ≡ true) → (any p xs ≡ true → (a : A) × (a ∈ xs) × (p a ≡ true)) → (a : A)
+          × (a ∈ x ∷ xs) × (p a ≡ true)
       go (inl q) ih = (x, here x xs, q)
       go (inr q) ih = let w = ih q in (w .0, List·Memᴰ·tail (w .1), w .2)
 
@@ -130,7 +135,8 @@ module _ {A : Type 0} where
   keep-append p [] t = refl
   keep-append p (x ∷ xs) t = go (p x) (keep-append p xs t)
     where
-      go : (b : Bool) → keep p (xs ++ t) ≡ keep p xs ++ keep p t → keepIf b x (keep p (xs ++ t)) ≡ keepIf b x (keep p xs) ++ keep p t
+      go : (b : Bool) → keep p (xs ++ t) ≡ keep p xs ++ keep p t
+          → keepIf b x (keep p (xs ++ t)) ≡ keepIf b x (keep p xs) ++ keep p t
       go true e = ap {B = List A} (λ r. x ∷ r) e
       go false e = e
 
@@ -147,13 +153,15 @@ module _ {A B : Type 0} where
   of-flat f [] d = elim d [ ]
   of-flat f {b} (x ∷ xs) d = go (List·Memᴰ·append-cases (f x) d) (of-flat f xs)
     where
-      go : (b ∈ f x) ⊎ (b ∈ flat f xs) → (b ∈ flat f xs → (a : A) × (a ∈ xs) × (b ∈ f a)) → (a : A) × (a ∈ x ∷ xs) × (b ∈ f a)
+      go : (b ∈ f x) ⊎ (b ∈ flat f xs) → (b ∈ flat f xs → (a : A) × (a ∈ xs) × (b ∈ f a)) → (a : A) × (a ∈ x ∷ xs)
+          × (b ∈ f a)
       go (inl m) ih = (x, here x xs, m)
       go (inr m) ih = let w = ih m in (w .0, List·Memᴰ·tail (w .1), w .2)
 
   pub flat-same : (f g : A → List B) (l : List A) → ((a : A) → a ∈ l → f a ≡ g a) → flat f l ≡ flat g l
   flat-same f g [] h = refl
-  flat-same f g (x ∷ xs) h = rw (h x (here x xs)) (ap (λ r. g x ++ r) (flat-same f g xs (λ a d. h a (List·Memᴰ·tail d))))
+  flat-same f g (x ∷ xs) h =
+      rw (h x (here x xs)) (ap (λ r. g x ++ r) (flat-same f g xs (λ a d. h a (List·Memᴰ·tail d))))
 
   pub keep-flat : (p : B → Bool) (f : A → List B) (l : List A) → keep p (flat f l) ≡ flat (λ a. keep p (f a)) l
   keep-flat p f [] = refl
@@ -191,9 +199,13 @@ module _ {A B C : Type 0} where
 -- ── Order ────────────────────────────────────────────────────────────────────────────────────────
 
 module _ {A : Type 0} where
-  pub pairwise-append : (R : A → A → Type 0) (s t : List A) → Pairwise R s → Pairwise R t → ((a b : A) → a ∈ s → b ∈ t → R a b) → Pairwise R (s ++ t)
+  pub pairwise-append : (R : A → A → Type 0) (s t : List A) → Pairwise R s → Pairwise R t
+      → ((a b : A) → a ∈ s → b ∈ t → R a b) → Pairwise R (s ++ t)
   pairwise-append R [] t os ot h = ot
-  pairwise-append R (x ∷ xs) t os ot h = (λ y d. go y (List·Memᴰ·append-cases xs d), pairwise-append R xs t (os .1) ot (λ a b da db. h a b (List·Memᴰ·tail da) db))
+  pairwise-append R (x ∷ xs) t os ot h = (
+    λ y d. go y (List·Memᴰ·append-cases xs d),
+    pairwise-append R xs t (os .1) ot (λ a b da db. h a b (List·Memᴰ·tail da) db),
+  )
     where
       go : (y : A) → (y ∈ xs) ⊎ (y ∈ t) → R x y
       go y (inl d) = os .0 y d
@@ -207,12 +219,17 @@ module _ {A : Type 0} where
       go true o′ = (λ y d. o .0 y (of-keep p xs d .0), o′)
       go false o′ = o′
 
-  pub pairwise-imp : (R S : A → A → Type 0) (l : List A) → ((a b : A) → a ∈ l → b ∈ l → R a b → S a b) → Pairwise R l → Pairwise S l
+  pub pairwise-imp : (R S : A → A → Type 0) (l : List A) → ((a b : A) → a ∈ l → b ∈ l → R a b → S a b) → Pairwise R l
+      → Pairwise S l
   pairwise-imp R S [] f o = tt
-  pairwise-imp R S (x ∷ xs) f o = (λ y d. f x y (here x xs) (List·Memᴰ·tail d) (o .0 y d), pairwise-imp R S xs (λ a b da db. f a b (List·Memᴰ·tail da) (List·Memᴰ·tail db)) (o .1))
+  pairwise-imp R S (x ∷ xs) f o = (
+    λ y d. f x y (here x xs) (List·Memᴰ·tail d) (o .0 y d),
+    pairwise-imp R S xs (λ a b da db. f a b (List·Memᴰ·tail da) (List·Memᴰ·tail db)) (o .1),
+  )
 
   -- what stands behind an element of an ordered list
-  pub pairwise-behind : (R : A → A → Type 0) (x : List A) (a : A) (y : List A) → Pairwise R (x ++ (a ∷ y)) → (b : A) → b ∈ y → R a b
+  pub pairwise-behind : (R : A → A → Type 0) (x : List A) (a : A) (y : List A) → Pairwise R (x ++ (a ∷ y)) → (b : A)
+      → b ∈ y → R a b
   pairwise-behind R [] a y o b d = o .0 b d
   pairwise-behind R (c ∷ x) a y o b d = pairwise-behind R x a y (o .1) b d
 
@@ -222,24 +239,29 @@ module _ {A : Type 0} where
   in-getD (x ∷ xs) (suc i) d h = List·Memᴰ·tail (in-getD xs i d (omega arith))
 
   -- two places of an ordered list
-  pub pairwise-getD : (R : A → A → Type 0) (l : List A) → Pairwise R l → (i j : ℕ) (d : A) → i < j → j < length l → R (getD l i d) (getD l j d)
+  pub pairwise-getD : (R : A → A → Type 0) (l : List A) → Pairwise R l → (i j : ℕ) (d : A) → i < j → j < length l
+      → R (getD l i d) (getD l j d)
   pairwise-getD R [] o i j d h k = absurd (omega arith)
   pairwise-getD R (x ∷ xs) o i zero d h k = absurd (omega arith)
   pairwise-getD R (x ∷ xs) o zero (suc j) d h k = o .0 (getD xs j d) (in-getD xs j d (omega arith))
   pairwise-getD R (x ∷ xs) o (suc i) (suc j) d h k = pairwise-getD R xs (o .1) i j d (omega arith) (omega arith)
 
 module _ {A B : Type 0} where
-  pub pairwise-map : (R : A → A → Type 0) (S : B → B → Type 0) (f : A → B) (l : List A) → Pairwise R l → ((a b : A) → R a b → S (f a) (f b)) → Pairwise S (map f l)
+  pub pairwise-map : (R : A → A → Type 0) (S : B → B → Type 0) (f : A → B) (l : List A) → Pairwise R l
+      → ((a b : A) → R a b → S (f a) (f b)) → Pairwise S (map f l)
   pairwise-map R S f [] o h = tt
   pairwise-map R S f (x ∷ xs) o h = (λ y d. go y (Memᴰ·of-map f xs d), pairwise-map R S f xs (o .1) h)
     where
       go : (y : B) → ((a : A) × (a ∈ xs) × (f a ≡ y)) → S (f x) y
       go y w = subst (S (f x)) (w .2) (h x (w .0) (o .0 (w .0) (w .1)))
 
-  pub pairwise-flat : (R : A → A → Type 0) (S : B → B → Type 0) (f : A → List B) (l : List A) → Pairwise R l → ((a : A) → Pairwise S (f a))
+  pub pairwise-flat : (R : A → A → Type 0) (S : B → B → Type 0) (f : A → List B) (l : List A) → Pairwise R l
+      → ((a : A) → Pairwise S (f a))
       → ((a a′ : A) → R a a′ → (b b′ : B) → b ∈ f a → b′ ∈ f a′ → S b b′) → Pairwise S (flat f l)
   pairwise-flat R S f [] o each h = tt
-  pairwise-flat R S f (x ∷ xs) o each h = pairwise-append S (f x) (flat f xs) (each x) (pairwise-flat R S f xs (o .1) each h) (λ b b′ d d′. go b b′ d (of-flat f xs d′))
+  pairwise-flat R S f (x ∷ xs) o each h =
+      pairwise-append S (f x) (flat f xs) (each x) (pairwise-flat R S f xs (o .1) each h)
+      (λ b b′ d d′. go b b′ d (of-flat f xs d′))
     where
       go : (b b′ : B) → b ∈ f x → ((a : A) × (a ∈ xs) × (b′ ∈ f a)) → S b b′
       go b b′ d w = h x (w .0) (o .0 (w .0) (w .1)) b b′ d (w .2)
@@ -261,7 +283,8 @@ pub in-numbersFrom : (i n r : ℕ) → i ≤ r → r < i + n → r ∈ numbersFr
 in-numbersFrom i zero r h k = absurd (omega arith)
 in-numbersFrom i (suc n) r h k = go (passes? (eqb r i)) (in-numbersFrom (suc i) n r)
   where
-    go : (eqb r i ≡ true) ⊎ (eqb r i ≡ false) → (suc i ≤ r → r < suc i + n → r ∈ numbersFrom (suc i) n) → r ∈ i ∷ numbersFrom (suc i) n
+    go : (eqb r i ≡ true) ⊎ (eqb r i ≡ false) → (suc i ≤ r → r < suc i + n → r ∈ numbersFrom (suc i) n) → r ∈ i
+        ∷ numbersFrom (suc i) n
     go (inl e) ih = List·Memᴰ·head (eqb-true r i e)
     go (inr e) ih = List·Memᴰ·tail (ih (let ne = eqb-false r i e in omega arith) (omega arith))
 

@@ -1,4 +1,5 @@
--- Where every mark is justified, the cheapest plan within both bounds is not pruned (source document 000, Lemma 1 and Theorem 2).
+-- Where every mark is justified, the cheapest plan within both bounds is not pruned (source document 000, Lemma 1 and
+-- Theorem 2).
 -- Assumes nothing.
 use mathlib.Core.Path.{_≡_, refl, sym, ap, _∙_, subst}
 use mathlib.Core.Logic.{_⊎_, inl, inr, _≢_}
@@ -18,8 +19,11 @@ use Rattle.theory_spec.specs.Pruning.{prefixes, segments, pruned, Redund
 use Rattle.theory_spec.specs.Plans.{endsIn, isPlan, candidates, cheapest, Preferred}
 use Rattle.theory_spec.specs.how.Firsts.{Least}
 use Rattle.theory_spec.specs.how.Pruning.{Closed, Justified}
-use Rattle.theory_spec.proofs.ListLaws.{here, any-true, true-any, in-keep, of-keep, pairwise-keep, and-split, and-join}
-use Rattle.theory_spec.proofs.SequenceLaws.{of-withFirst, in-withFirst, run-split, run-join, cost-append, numbered-append, numbered-left, numbered-right, of-sequences, in-sequences}
+use Rattle.theory_spec.proofs.ListLaws.{here, any-true, true-any, in-keep, of-keep, pairwise-keep, and-split}
+use Rattle.theory_spec.proofs.ListLaws.{and-join}
+use Rattle.theory_spec.proofs.SequenceLaws.{of-withFirst, in-withFirst, run-split, run-join, cost-append}
+use Rattle.theory_spec.proofs.SequenceLaws.{numbered-append, numbered-left, numbered-right, of-sequences}
+use Rattle.theory_spec.proofs.SequenceLaws.{in-sequences}
 use Rattle.theory_spec.proofs.OrderLaws.{before-length, before-nested, sequences-ordered}
 use Rattle.theory_spec.proofs.CheapestLaws.{preferred-of, none-preferred, cheapest-least}
 
@@ -42,11 +46,13 @@ cons-not-empty r q e = let z : _≡_ {A = ℕ} 0 1 = cc in omega arith
 
 pub of-prefixes : (q : Sequence) {b : Sequence} → b ∈ prefixes q → (b ≢ []) × ((y : Sequence) × (q ≡ b ++ y))
 of-prefixes [] d = elim d [ ]
-of-prefixes (r ∷ q) {b} (List·Memᴰ·head e) = subst (λ c. (c ≢ []) × ((y : Sequence) × ((r ∷ q) ≡ c ++ y))) (sym e) (cons-not-empty r [], (q, refl))
+of-prefixes (r ∷ q) {b} (List·Memᴰ·head e) =
+    subst (λ c. (c ≢ []) × ((y : Sequence) × ((r ∷ q) ≡ c ++ y))) (sym e) (cons-not-empty r [], (q, refl))
 of-prefixes (r ∷ q) {b} (List·Memᴰ·tail d) =
     let w = of-withFirst (prefixes q) r d in
     let ih = of-prefixes q (w .1) in
-    subst (λ c. (c ≢ []) × ((y : Sequence) × ((r ∷ q) ≡ c ++ y))) (w .2) (cons-not-empty r (w .0), (ih .1 .0, ap {B = Sequence} (λ v. r ∷ v) (ih .1 .1)))
+    subst (λ c. (c ≢ []) × ((y : Sequence) × ((r ∷ q) ≡ c ++ y))) (w .2)
+    (cons-not-empty r (w .0), (ih .1 .0, ap {B = Sequence} (λ v. r ∷ v) (ih .1 .1)))
 
 -- q has b as a segment
 abbrev pub Within : Sequence → Sequence → Type 0
@@ -77,7 +83,8 @@ module _ (marked : Sequence → Bool) where
       let u = w .2 .1 .0 in
       let v = w .2 .1 .1 in
       let e : (x ++ u ++ w .0 ++ (v ++ y)) ≡ (x ++ (u ++ w .0 ++ v) ++ y) = simp append-assoc in
-      subst (λ p. pruned marked p ≡ true) (e ∙ ap (λ p. x ++ p ++ y) (sym (w .2 .1 .2))) (segment-pruned (x ++ u) (w .0) (v ++ y) (w .2 .0) (w .1))
+      subst (λ p. pruned marked p ≡ true) (e ∙ ap (λ p. x ++ p ++ y) (sym (w .2 .1 .2)))
+      (segment-pruned (x ++ u) (w .0) (v ++ y) (w .2 .0) (w .1))
 
 -- ── Plans ────────────────────────────────────────────────────────────────────────────────────────
 
@@ -97,7 +104,8 @@ module _ {A : Type 0} (step : ℕ → A → Option A) (cost : ℕ → ℕ) (star
       let u = of-endsIn goal (run step q start) (w .0) in
       (u .0, u .1, u .2, leb-true (costOf cost q) maxCost (w .1))
 
-  pub in-plan : (q : Sequence) (t : A) → run step q start ≡ some t → goal t ≡ true → costOf cost q ≤ maxCost → isPlan step cost start goal maxCost q ≡ true
+  pub in-plan : (q : Sequence) (t : A) → run step q start ≡ some t → goal t ≡ true → costOf cost q ≤ maxCost
+      → isPlan step cost start goal maxCost q ≡ true
   in-plan q t e h k = and-join (in-endsIn goal (run step q start) t e h) (le-leb (costOf cost q) maxCost k)
 
 -- ── Lemma 1: a redundant segment may be replaced ─────────────────────────────────────────────────
@@ -117,7 +125,8 @@ module _ {A : Type 0} (step : ℕ → A → Option A) (m : ℕ) (Valid : A → T
           go (some u′) p = p
 
   -- what is redundant stays so between the same rules
-  pub redundant-around : (cost : ℕ → ℕ) (x a b y : Sequence) → Numbered m x → Redundant step cost Valid b a → Redundant step cost Valid (x ++ b ++ y) (x ++ a ++ y)
+  pub redundant-around : (cost : ℕ → ℕ) (x a b y : Sequence) → Numbered m x → Redundant step cost Valid b a
+      → Redundant step cost Valid (x ++ b ++ y) (x ++ a ++ y)
   redundant-around cost x a b y hx h = (simp (cost-append cost) (let c = h .0 in omega arith), ends)
     where
       ends : (s t : A) → Valid s → run step (x ++ b ++ y) s ≡ some t → run step (x ++ a ++ y) s ≡ some t
@@ -129,7 +138,8 @@ module _ {A : Type 0} (step : ℕ → A → Option A) (m : ℕ) (Valid : A → T
 
 -- ── Theorem 2: the preferred sequence is not pruned ──────────────────────────────────────────────
 
-module _ {A : Type 0} (step : ℕ → A → Option A) (cost : ℕ → ℕ) (m : ℕ) (Valid : A → Type 0) (closed : Closed step m Valid)
+module _ {A : Type 0} (step : ℕ → A → Option A) (cost : ℕ → ℕ) (m : ℕ) (Valid : A → Type 0)
+    (closed : Closed step m Valid)
     (marked : Sequence → Bool) (justified : Justified step cost m Valid marked) where
   -- for a pruned sequence there is an earlier one that does the same at no more cost
   pub replacement : (p : Sequence) → Numbered m p → pruned marked p ≡ true
@@ -144,19 +154,25 @@ module _ {A : Type 0} (step : ℕ → A → Option A) (cost : ℕ → ℕ) (m : 
       let n′ = subst (Numbered m) (w .2 .1 .2) n in
       let nx = numbered-left m x b (numbered-left m (x ++ b) y n′) in
       let ny = numbered-right m (x ++ b) y n′ in
-      subst (λ p′. (q : Sequence) × Before q p′ × Numbered m q × Redundant step cost Valid p′ q) (sym (w .2 .1 .2))
-      (x ++ a ++ y, before-nested x a b y (j .1), numbered-append m (x ++ a) y (numbered-append m x a nx (j .2)) ny, redundant-around step m Valid closed cost x a b y nx (j .3))
+      subst (λ p′. (q : Sequence) × Before q p′ × Numbered m q × Redundant step cost Valid p′ q) (sym (w .2 .1 .2)) (
+        x ++ a ++ y,
+        before-nested x a b y (j .1),
+        numbered-append m (x ++ a) y (numbered-append m x a nx (j .2)) ny,
+        redundant-around step m Valid closed cost x a b y nx (j .3),
+      )
 
   -- what is preferred to its replacements is not pruned
   not-pruned : (p : Sequence) → Numbered m p
-      → ((q : Sequence) → length q ≤ length p → Numbered m q → Redundant step cost Valid p q → (q ≡ p) ⊎ Preferred cost p q) → pruned marked p ≡ false
+      → ((q : Sequence) → length q ≤ length p → Numbered m q → Redundant step cost Valid p q → (q ≡ p)
+      ⊎ Preferred cost p q) → pruned marked p ≡ false
   not-pruned p n h = go (pruned marked p) refl
     where
       go : (b : Bool) → pruned marked p ≡ b → b ≡ false
       go false e = refl
       go true e =
           let w = replacement p n e in
-          absurd (none-preferred cost p (w .0) (preferred-of cost (w .0) p (w .3 .0) (w .1)) (h (w .0) (before-length (w .0) p (w .1)) (w .2) (w .3)))
+          absurd (none-preferred cost p (w .0) (preferred-of cost (w .0) p (w .3 .0) (w .1))
+          (h (w .0) (before-length (w .0) p (w .1)) (w .2) (w .3)))
 
   -- Theorem 2 with both bounds: the cheapest plan is not pruned
   pub cheapest-not-pruned : (start : A) (goal : A → Bool) (maxMoves maxCost : ℕ) (p : Sequence) → Valid start
@@ -167,7 +183,9 @@ module _ {A : Type 0} (step : ℕ → A → Option A) (cost : ℕ → ℕ) (m : 
       plan? = isPlan step cost start goal maxCost
 
       least : Least cost (keep plan? (sequences m maxMoves)) p
-      least = cheapest-least cost (keep plan? (sequences m maxMoves)) (pairwise-keep Before plan? (sequences m maxMoves) (sequences-ordered m maxMoves)) p e
+      least =
+          cheapest-least cost (keep plan? (sequences m maxMoves))
+          (pairwise-keep Before plan? (sequences m maxMoves) (sequences-ordered m maxMoves)) p e
 
       listed : (p ∈ sequences m maxMoves) × (plan? p ≡ true)
       listed = of-keep plan? (sequences m maxMoves) (least .0)
@@ -182,5 +200,7 @@ module _ {A : Type 0} (step : ℕ → A → Option A) (cost : ℕ → ℕ) (m : 
           let c = r .0 in
           in-plan step cost start goal maxCost q (w .0) (r .1 start (w .0) v (w .1)) (w .2) (omega arith)
 
-      rival : (q : Sequence) → length q ≤ length p → Numbered m q → Redundant step cost Valid p q → (q ≡ p) ⊎ Preferred cost p q
-      rival q l n r = least .1 q (in-keep plan? (in-sequences m maxMoves q (let k = inside .0 in omega arith) n) (plan q r))
+      rival : (q : Sequence) → length q ≤ length p → Numbered m q → Redundant step cost Valid p q → (q ≡ p)
+          ⊎ Preferred cost p q
+      rival q l n r =
+          least .1 q (in-keep plan? (in-sequences m maxMoves q (let k = inside .0 in omega arith) n) (plan q r))

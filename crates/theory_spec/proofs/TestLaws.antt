@@ -1,4 +1,5 @@
--- When a test passes, as a statement: `(test ≡ true) ↔ statement`, for the tests on numbers and lists and for tests put together.
+-- When a test passes, as a statement: `(test ≡ true) ↔ statement`, for the tests on numbers and lists and for tests put
+-- together.
 -- Assumes nothing.
 use mathlib.Core.Path.{_≡_, refl, sym, ap, _∙_, subst}
 use mathlib.Core.Logic.{_↔_, _⊎_, inl, inr, _≢_, ⊎-elim}
@@ -10,7 +11,8 @@ use native.Mathlib.Omega.{arith}
 use borrow.Author.Tests.{leb-true, le-leb, ltb-true, ltb-false, lt-ltb, eqb-true, eqb-false, eq-eqb}
 use Rattle.theory_spec.specs.Lists.{_∈_, any, every, numbersFrom, within, same}
 use Rattle.theory_spec.specs.how.Firsts.{firstThat}
-use Rattle.theory_spec.proofs.ListLaws.{not-both, and-split, and-join, every-at, true-every, any-true, true-any, of-numbersFrom, in-numbersFrom, same-true, same-refl}
+use Rattle.theory_spec.proofs.ListLaws.{not-both, and-split, and-join, every-at, true-every, any-true, true-any}
+use Rattle.theory_spec.proofs.ListLaws.{of-numbersFrom, in-numbersFrom, same-true, same-refl}
 
 -- a number is below another or not
 pub below? : (i n : ℕ) → (i < n) ⊎ (n ≤ i)
@@ -45,7 +47,8 @@ not-iff true i = (λ e p. false≢true e, λ h. absurd (h (i .0 refl)))
 not-iff false i = (λ e p. false≢true (i .1 p), λ h. refl)
 
 pub and-iff : (a b : Bool) {P Q : Type 0} → (a ≡ true) ↔ P → (b ≡ true) ↔ Q → ((a && b) ≡ true) ↔ (P × Q)
-and-iff a b i j = (λ e. let w = and-split a b e in (i .0 (w .0), j .0 (w .1)), λ w. and-join (i .1 (w .0)) (j .1 (w .1)))
+and-iff a b i j =
+    (λ e. let w = and-split a b e in (i .0 (w .0), j .0 (w .1)), λ w. and-join (i .1 (w .0)) (j .1 (w .1)))
 
 -- a test that is asked only where another fails
 pub unless-iff : (a b : Bool) {P Q : Type 0} → (a ≡ true) ↔ P → (b ≡ true) ↔ Q → ((a || b) ≡ true) ↔ ((P → ⊥) → Q)
@@ -56,7 +59,8 @@ pub within-iff : (lo hi n : ℕ) → (within lo hi n ≡ true) ↔ ((lo ≤ n) �
 within-iff lo hi n = and-iff (leb lo n) (leb n hi) (leb-iff lo n) (leb-iff n hi)
 
 -- one test below a number, another from it on
-pub cond-iff : (i n : ℕ) (a b : Bool) {P Q : Type 0} → (a ≡ true) ↔ P → (b ≡ true) ↔ Q → (cond (ltb i n) a b ≡ true) ↔ ((i < n → P) × (n ≤ i → Q))
+pub cond-iff : (i n : ℕ) (a b : Bool) {P Q : Type 0} → (a ≡ true) ↔ P → (b ≡ true) ↔ Q → (cond (ltb i n) a b ≡ true)
+    ↔ ((i < n → P) × (n ≤ i → Q))
 cond-iff i n a b {P} {Q} p q = go (ltb i n) refl
   where
     go : (t : Bool) → ltb i n ≡ t → (cond t a b ≡ true) ↔ ((i < n → P) × (n ≤ i → Q))
@@ -76,19 +80,27 @@ module _ {A : Type 0} (p : A → Bool) (P : A → Type 0) (each : (a : A) → (p
   every-iff = (λ e a d. each a .0 (every-at p e d), λ h. true-every p l (λ a d. each a .1 (h a d)))
 
   pub any-iff : (any p l ≡ true) ↔ ((a : A) × (a ∈ l) × P a)
-  any-iff = (λ e. let w = any-true p l e in (w .0, w .1, each (w .0) .0 (w .2)), λ w. true-any p (w .1) (each (w .0) .1 (w .2)))
+  any-iff = (
+    λ e. let w = any-true p l e in (w .0, w .1, each (w .0) .0 (w .2)),
+    λ w. true-any p (w .1) (each (w .0) .1 (w .2)),
+  )
 
 -- the same over the numbers below n
 module _ (p : ℕ → Bool) (P : ℕ → Type 0) (each : (i : ℕ) → (p i ≡ true) ↔ P i) (n : ℕ) where
   pub every-below-iff : (every p (numbersFrom 0 n) ≡ true) ↔ ((i : ℕ) → i < n → P i)
   every-below-iff =
-      let w = every-iff p P each (numbersFrom 0 n) in
-      (λ e i h. w .0 e i (in-numbersFrom 0 n i (omega arith) (omega arith)), λ f. w .1 (λ i d. let b = of-numbersFrom 0 n d in f i (omega arith)))
+      let w = every-iff p P each (numbersFrom 0 n) in (
+        λ e i h. w .0 e i (in-numbersFrom 0 n i (omega arith) (omega arith)),
+        λ f. w .1 (λ i d. let b = of-numbersFrom 0 n d in f i (omega arith)),
+      )
 
   pub any-below-iff : (any p (numbersFrom 0 n) ≡ true) ↔ ((i : ℕ) × (i < n) × P i)
   any-below-iff =
-      let w = any-iff p P each (numbersFrom 0 n) in
-      (λ e. let v = w .0 e in let b = of-numbersFrom 0 n (v .1) in (v .0, omega arith, v .2), λ v. w .1 (v .0, in-numbersFrom 0 n (v .0) (omega arith) (omega arith), v .2))
+      let w = any-iff p P each (numbersFrom 0 n) in (
+        λ e. let v = w .0 e in let b = of-numbersFrom 0 n (v .1) in
+            (v .0, omega arith, v .2),
+        λ v. w .1 (v .0, in-numbersFrom 0 n (v .0) (omega arith) (omega arith), v .2),
+      )
 
 -- ── The first number from i on that passes a test ────────────────────────────────────────────────
 
@@ -111,7 +123,8 @@ module _ (test : ℕ → Bool) where
       let high = w .1 in
       (omega arith, omega arith, w .2, λ j h b. ⊎-elim (λ d. ap test d ∙ e) (λ d. w .3 j (omega arith) b) (equal? j i))
 
-  pub first-that : (i n : ℕ) → ((firstThat test (numbersFrom i n) ≡ 0) × NonePasses i n) ⊎ FirstPasses i n (firstThat test (numbersFrom i n))
+  pub first-that : (i n : ℕ) → ((firstThat test (numbersFrom i n) ≡ 0) × NonePasses i n)
+      ⊎ FirstPasses i n (firstThat test (numbersFrom i n))
   first-that i zero = inl (refl, λ j h k. absurd (omega arith))
   first-that i (suc n) = go (test i) refl (first-that (suc i) n)
     where
@@ -126,7 +139,10 @@ module _ (test : ℕ → Bool) where
 
   -- counted from 1 or more on it is 0 exactly if none passes
   pub first-none-iff : (i n : ℕ) → 1 ≤ i → (firstThat test (numbersFrom i n) ≡ 0) ↔ NonePasses i n
-  first-none-iff i n one = (λ e. ⊎-elim (λ w. w .1) (λ w. let low = w .0 in absurd (omega arith)) (first-that i n), λ f. ⊎-elim (λ w. w .0) (λ w. not-both (w .2) (f _ (w .0) (w .1))) (first-that i n))
+  first-none-iff i n one = (
+    λ e. ⊎-elim (λ w. w .1) (λ w. let low = w .0 in absurd (omega arith)) (first-that i n),
+    λ f. ⊎-elim (λ w. w .0) (λ w. not-both (w .2) (f _ (w .0) (w .1))) (first-that i n),
+  )
 
   -- and k exactly if k is the least that passes
   pub first-that-iff : (i n k : ℕ) → 1 ≤ i → (firstThat test (numbersFrom i n) ≡ k) × (k ≢ 0) ↔ FirstPasses i n k
@@ -134,7 +150,8 @@ module _ (test : ℕ → Bool) where
     λ w. ⊎-elim (λ v. absurd (w .1 (sym (w .0) ∙ v .0))) (λ v. subst (FirstPasses i n) (w .0) v) (first-that i n),
     λ v.
         let low = v .0 in (
-          ⊎-elim (λ w. not-both (v .2) (w .1 k (v .0) (v .1))) (λ w. least (firstThat test (numbersFrom i n)) w v) (first-that i n),
+          ⊎-elim (λ w. not-both (v .2) (w .1 k (v .0) (v .1))) (λ w. least (firstThat test (numbersFrom i n)) w v)
+              (first-that i n),
           λ e. omega arith,
         ),
   )
@@ -142,5 +159,6 @@ module _ (test : ℕ → Bool) where
       least : (m : ℕ) → FirstPasses i n m → FirstPasses i n k → m ≡ k
       least m w v =
           ⊎-elim (λ e. e)
-          (λ d. ⊎-elim (λ h. not-both (w .2) (v .3 m (w .0) h)) (λ h. not-both (v .2) (w .3 k (v .0) (omega arith))) (below? m k))
+          (λ d. ⊎-elim (λ h. not-both (w .2) (v .3 m (w .0) h)) (λ h. not-both (v .2) (w .3 k (v .0) (omega arith)))
+          (below? m k))
           (equal? m k)

@@ -1,4 +1,5 @@
--- `buffers::fill_from` meets its contract. The invariant: the byte from i on makes of the buffer what it makes from the first place on of the buffer as it was.
+-- `buffers::fill_from` meets its contract. The invariant: the byte from i on makes of the buffer what it makes from the
+-- first place on of the buffer as it was.
 -- Assumes nothing.
 use mathlib.Core.Path.{_≡_, refl, sym, _∙_}
 use Prim.Native.Nat.{_-_}
@@ -11,7 +12,8 @@ use Rattle.buffers.proofs.fill_from.Statement.{statement}
 use Rattle.buffers.proofs.fill_from.Tie as tie
 
 abbrev Inv-loop : tie.InvT-loop
-Inv-loop buffer₀ from byte i₀ buffer i = (length buffer ≡ length buffer₀) × (filledFrom byte i buffer ≡ filledFrom byte from buffer₀)
+Inv-loop buffer₀ from byte i₀ buffer i =
+    (length buffer ≡ length buffer₀) × (filledFrom byte i buffer ≡ filledFrom byte from buffer₀)
 
 abbrev μ-loop : tie.MeasureT-loop
 μ-loop buffer₀ from byte i₀ buffer i = length buffer - i
@@ -29,7 +31,12 @@ loop-less : tie.Need-loop-less Inv-loop μ-loop
 loop-less c = simp length-set (omega arith)
 
 loop-again : tie.Need-loop-again Inv-loop μ-loop
-loop-again c = let l = c .before .loop in (simp length-set (l .inv .0), filled-more _ (l .buffer) (l .i) (c .loop-test .taken) ∙ l .inv .1)
+loop-again c =
+    let l = c .before .loop in (
+      simp length-set (l .inv .0),
+      filled-more _ (l .buffer) (l .i) (c .loop-test .taken)
+          ∙ l .inv .1,
+    )
 
 same-length : tie.Need-same-length Inv-loop μ-loop
 same-length c = search needs

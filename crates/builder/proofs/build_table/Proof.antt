@@ -1,4 +1,5 @@
--- `builder::build_table` meets its contract: what either way out gives and leaves is the definitions', which have their meaning.
+-- `builder::build_table` meets its contract: what either way out gives and leaves is the definitions', which have their
+-- meaning.
 -- Assumes nothing.
 use mathlib.Core.Path.{_≡_, sym, _∙_}
 use mathlib.Core.List.{List}
@@ -17,7 +18,8 @@ use Rattle.builder.proofs.build_table.Statement.{statement}
 use Rattle.builder.proofs.build_table.Tie as tie
 
 -- the definitions' outcome and table have their meaning
-answers : (set : RuleSet) (reach size r : ℕ) (table : List ℕ) → r ≡ buildOutcome set reach size → table ≡ builtBuffer set reach size
+answers : (set : RuleSet) (reach size r : ℕ) (table : List ℕ) → r ≡ buildOutcome set reach size
+    → table ≡ builtBuffer set reach size
     → (r ≡ buildOutcome set reach size) × (table ≡ builtBuffer set reach size) × BuildMeaning set reach size r table
 answers set reach size r table e t = (e, t, rw (e, t) (build-meaning set reach size))
 

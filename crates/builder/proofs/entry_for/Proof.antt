@@ -1,4 +1,5 @@
--- `builder::entry_for` meets its contract: what the search finds for the sequence's vectors and cost is its own index or the witness.
+-- `builder::entry_for` meets its contract: what the search finds for the sequence's vectors and cost is its own index
+-- or the witness.
 -- Assumes nothing.
 use mathlib.Core.Path.{_≡_, sym, ap, ap₂, _∙_}
 use mathlib.Core.Bool.{cond}
@@ -25,7 +26,8 @@ use Rattle.builder.proofs.entry_for.Statement.{statement}
 use Rattle.builder.proofs.entry_for.Tie as tie
 
 module _ (set : RuleSet) (valid : WellFormed set) (i : ℕ) (h : i < tableEntries set 3) (vectors : Vectors) (cost : ℕ)
-    (v : vectors ≡ asVectors (composed set (shortSequence (set .count) i))) (c : cost ≡ sequenceCost set (shortSequence (set .count) i))
+    (v : vectors ≡ asVectors (composed set (shortSequence (set .count) i)))
+    (c : cost ≡ sequenceCost set (shortSequence (set .count) i))
     (f : ℕ) (e : f ≡ firstWitness set 0 (linesOf vectors) cost (sequences (set .count) 3)) where
   -- what is found
   found : (f ≤ i) × (builtEntry set 3 i ≡ cond (eqb f i) kept f)
@@ -33,14 +35,20 @@ module _ (set : RuleSet) (valid : WellFormed set) (i : ℕ) (h : i < tableEntrie
       built-found set valid i h f
       (e
       ∙ witness-searched set 0 (linesOf vectors) cost (sequences (set .count) 3) (valid .countLimits .1)
-      ∙ ap₂ (λ lines n. firstBehind (set .count) 0 (serves set lines n) (sequences (set .count) 3)) (ap linesOf v ∙ lines-vectors (composed set (shortSequence (set .count) i))) c
-      ∙ ap (λ q. firstBehind (set .count) 0 (serves set (composed set q) (sequenceCost set q)) (sequences (set .count) 3)) (short-at set valid i h))
+      ∙ ap₂ (λ lines n. firstBehind (set .count) 0 (serves set lines n) (sequences (set .count) 3))
+      (ap linesOf v ∙ lines-vectors (composed set (shortSequence (set .count) i))) c
+      ∙ ap (λ q. firstBehind (set .count) 0 (serves set (composed set q) (sequenceCost set q))
+      (sequences (set .count) 3)) (short-at set valid i h))
 
   own-index : f ≡ i → (kept ≡ builtEntry set 3 i) × (kept < 65536)
   own-index same = (sym (found .1 ∙ rw (eq-eqb f i same)), omega arith)
 
   witness : (f ≡ i → ⊥) → (f ≡ builtEntry set 3 i) × (f < 65536)
-  witness other = (sym (found .1 ∙ rw (ne-eqb f i other)), omega (arith, found .0, entries-bound set 3 (valid .countLimits .1) (omega arith)))
+  witness other = (
+    sym (found .1 ∙ rw (ne-eqb f i other)),
+    omega
+        (arith, found .0, entries-bound set 3 (valid .countLimits .1) (omega arith)),
+  )
 
 profile-at-requires : tie.Need-profile-at-requires
 profile-at-requires c κs = search needs
@@ -52,14 +60,16 @@ returns : tie.Need-returns
 returns c =
     let own = c .before .before in
     let s = own .before in
-    own-index (s .args .set) (s .pre .0) (s .args .index) (s .pre .1) (own .profile-at .result .vectors) (own .profile-at .result .cost) (own .profile-at .ensures .0) (own .profile-at .ensures .1)
+    own-index (s .args .set) (s .pre .0) (s .args .index) (s .pre .1) (own .profile-at .result .vectors)
+    (own .profile-at .result .cost) (own .profile-at .ensures .0) (own .profile-at .ensures .1)
     (c .before .smallest-witness .result) (c .before .smallest-witness .ensures) (c .if1 .taken)
 
 returns-2 : tie.Need-returns-2
 returns-2 c =
     let own = c .before .before in
     let s = own .before in
-    witness (s .args .set) (s .pre .0) (s .args .index) (s .pre .1) (own .profile-at .result .vectors) (own .profile-at .result .cost) (own .profile-at .ensures .0) (own .profile-at .ensures .1)
+    witness (s .args .set) (s .pre .0) (s .args .index) (s .pre .1) (own .profile-at .result .vectors)
+    (own .profile-at .result .cost) (own .profile-at .ensures .0) (own .profile-at .ensures .1)
     (c .before .smallest-witness .result) (c .before .smallest-witness .ensures) (c .if1 .left)
 
 pub entry-for-spec : {M : Type 1} → statement M

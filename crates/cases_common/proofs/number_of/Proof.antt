@@ -1,4 +1,5 @@
--- `cases_common::number_of` meets its contract. The invariant: what is left of the text makes the number of what was read.
+-- `cases_common::number_of` meets its contract. The invariant: what is left of the text makes the number of what was
+-- read.
 -- Assumes nothing.
 use mathlib.Core.Path.{_≡_, refl, ap, _∙_}
 use Prim.Native.Nat.{_+_, _-_}

@@ -1,4 +1,5 @@
--- `cases_files::decode` meets its contract. The invariant: the buffer keeps its length, and no more is put in than fits.
+-- `cases_files::decode` meets its contract. The invariant: the buffer keeps its length, and no more is put in than
+-- fits.
 -- Assumes nothing.
 use mathlib.Core.Path.{_≡_}
 use Prim.Native.Nat.{_≤_, _-_}

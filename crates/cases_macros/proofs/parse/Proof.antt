@@ -1,4 +1,5 @@
--- `cases_macros::parse` meets its contract. The invariant: the buffer keeps its length, and the last number stands in it or just after it. Each turn leaves one byte fewer.
+-- `cases_macros::parse` meets its contract. The invariant: the buffer keeps its length, and the last number stands in
+-- it or just after it. Each turn leaves one byte fewer.
 -- Assumes nothing.
 use mathlib.Core.Path.{_≡_}
 use mathlib.Core.Logic.{⊎-elim}

@@ -20,7 +20,8 @@ rem-rule : tie.Need-rem-rule
 rem-rule c = search needs
 
 add-rule : tie.Need-add-rule
-add-rule c = omega (arith, mod-lt (c .before .before .args .index - 1) {m = c .before .before .args .count} (omega arith))
+add-rule c =
+    omega (arith, mod-lt (c .before .before .args .index - 1) {m = c .before .before .args .count} (omega arith))
 
 print-number-requires : tie.Need-print-number-requires
 print-number-requires c κs = search needs

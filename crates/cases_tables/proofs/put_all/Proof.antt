@@ -1,4 +1,5 @@
--- `cases_tables::put_all` meets its contract. Each turn leaves less of the text. The invariant: the table keeps its length.
+-- `cases_tables::put_all` meets its contract. Each turn leaves less of the text. The invariant: the table keeps its
+-- length.
 -- Assumes nothing.
 use mathlib.Core.Path.{_≡_}
 use Prim.Native.Nat.{_-_}

@@ -1,4 +1,5 @@
--- `cases_tables::run_lines` meets its contract. Each turn leaves less of the input. The invariant: the table keeps its length.
+-- `cases_tables::run_lines` meets its contract. Each turn leaves less of the input. The invariant: the table keeps its
+-- length.
 -- Assumes nothing.
 use mathlib.Core.Path.{_≡_}
 use Prim.Native.Nat.{_-_}

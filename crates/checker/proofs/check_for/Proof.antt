@@ -21,7 +21,8 @@ is-accepted-requires : tie.Need-is-accepted-requires
 is-accepted-requires c κs =
     let start = c .before .before .before in
     let s = start .args in
-    let w = shape-ready-iff (s .set) (s .reach) (length (s .table .now)) .0 (sym (c .before .shape-refusal .ensures) ∙ c .if1 .left) in
+    let w = shape-ready-iff (s .set) (s .reach) (length (s .table .now)) .0
+    (sym (c .before .shape-refusal .ensures) ∙ c .if1 .left) in
     (start .pre, w .0 .1, w .1)
 
 returns-2 : tie.Need-returns-2
@@ -29,7 +30,8 @@ returns-2 c =
     let judged = c .before .before in
     let s = judged .before .before .before .args in
     let z = sym (judged .before .shape-refusal .ensures) ∙ judged .if1 .left in
-    sym (marks-decide (s .set) (s .reach) (s .table .now) z _ (failed (c .before .is-accepted .ensures) (c .if2 .taken)))
+    sym (marks-decide (s .set) (s .reach) (s .table .now) z _
+    (failed (c .before .is-accepted .ensures) (c .if2 .taken)))
 
 returns-3 : tie.Need-returns-3
 returns-3 c =

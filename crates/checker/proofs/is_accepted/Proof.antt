@@ -13,7 +13,8 @@ use Rattle.checker.proofs.is_accepted.Statement.{statement}
 use Rattle.checker.proofs.is_accepted.Tie as tie
 
 abbrev Inv-loop : tie.InvT-loop
-Inv-loop set reach table count i₀ i = every (entryJustified set reach table) (numbersFrom i (tableEntries set reach - i)) ≡ accepted set reach table
+Inv-loop set reach table count i₀ i =
+    every (entryJustified set reach table) (numbersFrom i (tableEntries set reach - i)) ≡ accepted set reach table
 
 abbrev μ-loop : tie.MeasureT-loop
 μ-loop set reach table count i₀ i = count - i
@@ -35,8 +36,10 @@ returns c =
     let s = at .before .before in
     let a = s .args in
     let h : at .loop .i < tableEntries (a .set) (a .reach) = omega arith in
-    every-stop (entryJustified (a .set) (a .reach) (a .table .now)) (at .loop .i) (tableEntries (a .set) (a .reach)) _ (at .loop .inv) h
-    (sym (near-justified (a .set) (a .reach) (s .pre .1) (a .table .now) (at .loop .i) h) ∙ failed (c .before .justified .ensures) (c .if1 .taken))
+    every-stop (entryJustified (a .set) (a .reach) (a .table .now)) (at .loop .i) (tableEntries (a .set) (a .reach)) _
+    (at .loop .inv) h
+    (sym (near-justified (a .set) (a .reach) (s .pre .1) (a .table .now) (at .loop .i) h)
+    ∙ failed (c .before .justified .ensures) (c .if1 .taken))
 
 add-i : tie.Need-add-i Inv-loop μ-loop
 add-i c = search needs
@@ -50,14 +53,17 @@ loop-again c =
     let s = at .before .before in
     let a = s .args in
     let h : at .loop .i < tableEntries (a .set) (a .reach) = omega arith in
-    every-go (entryJustified (a .set) (a .reach) (a .table .now)) (at .loop .i) (tableEntries (a .set) (a .reach)) _ (at .loop .inv) h
-    (sym (near-justified (a .set) (a .reach) (s .pre .1) (a .table .now) (at .loop .i) h) ∙ passed (c .before .justified .ensures) (c .if1 .left))
+    every-go (entryJustified (a .set) (a .reach) (a .table .now)) (at .loop .i) (tableEntries (a .set) (a .reach)) _
+    (at .loop .inv) h
+    (sym (near-justified (a .set) (a .reach) (s .pre .1) (a .table .now) (at .loop .i) h)
+    ∙ passed (c .before .justified .ensures) (c .if1 .left))
 
 returns-2 : tie.Need-returns-2 Inv-loop μ-loop
 returns-2 c =
     let at = c .before in
     let a = at .before .before .args in
-    every-end (entryJustified (a .set) (a .reach) (a .table .now)) (at .loop .i) (tableEntries (a .set) (a .reach)) _ (at .loop .inv) (omega arith)
+    every-end (entryJustified (a .set) (a .reach) (a .table .now)) (at .loop .i) (tableEntries (a .set) (a .reach)) _
+    (at .loop .inv) (omega arith)
 
 pub is-accepted-spec : {M : Type 1} → statement M
 is-accepted-spec =

@@ -35,7 +35,8 @@ module _ (set : RuleSet) (table : List ℕ) (i entry : ℕ) (e : entry ≡ entry
     -- the mark names no smaller index
     not-smaller : i ≤ entry → false ≡ entryJustified set 3 table i
     unfolding entryJustified
-    not-smaller l = sym (rw (ne-eqb (entryAt table i) kept (λ k. marked (e ∙ k)), le-ltb (entryAt table i) i (omega arith)))
+    not-smaller l =
+        sym (rw (ne-eqb (entryAt table i) kept (λ k. marked (e ∙ k)), le-ltb (entryAt table i) i (omega arith)))
 
     module _ (l : entry < i) where
       -- else redundancy with the sequence that it names tells
@@ -46,13 +47,18 @@ module _ (set : RuleSet) (table : List ℕ) (i entry : ℕ) (e : entry ≡ entry
           ∙ sym (rw (ne-eqb (entryAt table i) kept (λ k. marked (e ∙ k)), lt-ltb (entryAt table i) i (omega arith)))
 
       -- and the test on the sequence's vectors and cost tells that
-      compared : WellFormed set → i < tableEntries set 3 → (vectors : Vectors) → vectors ≡ asVectors (composed set (sequenceAt set 3 i)) → (cost : ℕ) → cost ≡ sequenceCost set (sequenceAt set 3 i)
-          → (witness : Sequence) → witness ≡ sequenceAt set 3 entry → (r : Bool) → r ≡ redundantByLines set (linesOf vectors) cost witness → r ≡ entryJustified set 3 table i
+      compared : WellFormed set → i < tableEntries set 3 → (vectors : Vectors)
+          → vectors ≡ asVectors (composed set (sequenceAt set 3 i)) → (cost : ℕ)
+          → cost ≡ sequenceCost set (sequenceAt set 3 i)
+          → (witness : Sequence) → witness ≡ sequenceAt set 3 entry → (r : Bool)
+          → r ≡ redundantByLines set (linesOf vectors) cost witness → r ≡ entryJustified set 3 table i
       compared valid h vectors v cost c witness w r t =
           t
-          ∙ ap (λ lines. redundantByLines set lines cost witness) (ap linesOf v ∙ lines-vectors (composed set (sequenceAt set 3 i)))
+          ∙ ap (λ lines. redundantByLines set lines cost witness)
+          (ap linesOf v ∙ lines-vectors (composed set (sequenceAt set 3 i)))
           ∙ ap₂ (redundantByLines set (composed set (sequenceAt set 3 i))) c w
-          ∙ redundant-by-lines set valid (sequenceAt set 3 i) (sequenceAt set 3 entry) (index-sequence set 3 i h .1) (index-sequence set 3 entry (omega arith) .1)
+          ∙ redundant-by-lines set valid (sequenceAt set 3 i) (sequenceAt set 3 entry) (index-sequence set 3 i h .1)
+          (index-sequence set 3 entry (omega arith) .1)
           ∙ smaller
 
 -- ── The proof ────────────────────────────────────────────────────────────────────────────────────

@@ -1,4 +1,5 @@
--- `composition::own_variables` meets its contract. The invariant: the first i places, and what is left to store, are the whole.
+-- `composition::own_variables` meets its contract. The invariant: the first i places, and what is left to store, are
+-- the whole.
 -- Assumes nothing.
 use mathlib.Core.Path.{_≡_, refl}
 use mathlib.Core.Bool.{cond}
@@ -16,7 +17,8 @@ use Rattle.composition.proofs.own_variables.Tie as tie
 
 abbrev Inv-loop : tie.InvT-loop
 Inv-loop positions entries₀ i₀ entries i =
-    (i ≤ 16) × (length entries ≡ 16) × (take i entries ++ map (λ k. cond (ltb k positions) (16 + k) 0) (numbersFrom i (16 - i)) ≡ ownVariables positions)
+    (i ≤ 16) × (length entries ≡ 16) × (take i entries
+    ++ map (λ k. cond (ltb k positions) (16 + k) 0) (numbersFrom i (16 - i)) ≡ ownVariables positions)
 
 abbrev μ-loop : tie.MeasureT-loop
 μ-loop positions entries₀ i₀ entries i = 16 - i

@@ -1,4 +1,5 @@
--- `composition::replaced` meets its contract. The invariant: in the first i places each `from` is replaced, the others are as they were.
+-- `composition::replaced` meets its contract. The invariant: in the first i places each `from` is replaced, the others
+-- are as they were.
 -- Assumes nothing.
 use mathlib.Core.Path.{_≡_, sym, ap, _∙_}
 use mathlib.Core.Logic.{⊎-elim}
@@ -39,8 +40,16 @@ loop-again c =
     let f = exchanged (a .from) (a .to) in
     let was = front-at f (l .i) _ (l .changed) (l .inv .1) in
     ⊎-elim
-    (λ w. rw (w .1) (search needs, front-more f (l .i) _ (l .changed) (a .to) (l .inv .1) (sym (ap f (sym was ∙ w .0 .taken) ∙ exchanged-from (a .from) (a .to)))))
-    (λ w. rw (w .1) (search needs, front-same f (l .i) _ (l .changed) (l .inv .1) (exchanged-other (a .from) (a .to) _ (w .0 .left))))
+    (λ w. rw (w .1) (
+      search needs,
+      front-more f (l .i) _ (l .changed) (a .to) (l .inv .1)
+          (sym (ap f (sym was ∙ w .0 .taken) ∙ exchanged-from (a .from) (a .to))),
+    ))
+    (λ w. rw (w .1) (
+      search needs,
+      front-same f (l .i) _ (l .changed) (l .inv .1)
+          (exchanged-other (a .from) (a .to) _ (w .0 .left)),
+    ))
     (c .if1 .came)
 
 returns : tie.Need-returns Inv-loop μ-loop

@@ -49,8 +49,12 @@ loop-again : tie.Need-loop-again Inv-loop μ-loop
 loop-again c =
     let at = c .before .before .before in
     let s = at .before .before .args in
-    let passed = sym (c .before .repeated .ensures) ∙ c .if1 .left in
-    (search needs, search needs, any-go (repeated (s .set .rules)) (at .loop .k) _ _ (at .loop .inv .2) (omega arith) passed)
+    let passed = sym (c .before .repeated .ensures) ∙ c .if1 .left in (
+      search needs,
+      search needs,
+      any-go (repeated (s .set .rules)) (at .loop .k) _ _ (at .loop .inv .2)
+          (omega arith) passed,
+    )
 
 returns-2 : tie.Need-returns-2 Inv-loop μ-loop
 returns-2 c =

@@ -98,7 +98,8 @@ returns c =
     rw (pieces set (positions-byte set _ (start .good .1 .0)) (count-byte set _ (start .good .1 .0)))
     (laid-append
     (laid-append
-    (laid-append (positions .put-number-line .ensures) (laid-append (key .put-word .ensures) (sizes .put-numbers .ensures)))
+    (laid-append (positions .put-number-line .ensures)
+    (laid-append (key .put-word .ensures) (sizes .put-numbers .ensures)))
     (count .put-number-line2 .ensures))
     (rules .put-rules .ensures))
 

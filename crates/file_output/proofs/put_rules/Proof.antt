@@ -41,7 +41,8 @@ none-left set count k h = ap (flat (ruleText (set .positions))) (slice-none (set
 abbrev Inv-loop : tie.InvT-loop
 Inv-loop text₀ at set count next₀ k₀ text next k =
     (k ≤ count)
-    × Remains at (flat (ruleText (set .positions)) (take (set .count) (set .rules))) text₀ next (linesFrom set count k) text
+    × Remains at (flat (ruleText (set .positions)) (take (set .count) (set .rules))) text₀ next
+    (linesFrom set count k) text
 
 abbrev μ-loop : tie.MeasureT-loop
 μ-loop text₀ at set count next₀ k₀ text next k = count - k
@@ -53,7 +54,8 @@ loop-holds : tie.Need-loop-holds Inv-loop μ-loop
 loop-holds c =
     let start = c .before .before in
     let set = start .args .t3 in
-    let whole = all-lines set (c .rules-shown .result) (rules-31 set _ (start .good .1 .1 .0)) (c .rules-shown .ensures) in
+    let whole = all-lines set (c .rules-shown .result) (rules-31 set _ (start .good .1 .1 .0))
+    (c .rules-shown .ensures) in
     (search needs, rw (sym whole) (remains-all _ _ _))
 
 mul-rule : tie.Need-mul-rule Inv-loop μ-loop
@@ -80,7 +82,8 @@ loop-again c =
     let start = some .before .before in
     let set = start .args .t3 in
     let long = rules-31 set _ (start .good .1 .1 .0) in
-    let next = one-more set (some .rules-shown .result) long (some .rules-shown .ensures) (l .k) (turn .loop-test .taken) in
+    let next = one-more set (some .rules-shown .result) long (some .rules-shown .ensures) (l .k)
+    (turn .loop-test .taken) in
     (search needs, remains-rest (l .inv .1) _ _ next (put .put-rule .ensures))
 
 same-length : tie.Need-same-length Inv-loop μ-loop
@@ -90,7 +93,8 @@ returns : tie.Need-returns Inv-loop μ-loop
 returns c =
     let l = c .before .loop in
     let some = c .before .before in
-    remains-none (l .inv .1) (none-left (some .before .before .args .t3) (some .rules-shown .result) (l .k) (c .loop-test .left))
+    remains-none (l .inv .1) (none-left (some .before .before .args .t3) (some .rules-shown .result) (l .k)
+    (c .loop-test .left))
 
 pub put-rules-spec : {M : Type 1} → statement M
 put-rules-spec =

@@ -1,4 +1,5 @@
--- `list_output::put_entries` meets its contract: of no item there is the line feed alone. The loop's invariant: the items
+-- `list_output::put_entries` meets its contract: of no item there is the line feed alone. The loop's invariant: the
+-- items
 -- from i on remain, each with the byte that ends it.
 -- Assumes nothing.
 use mathlib.Core.List.{[]}
@@ -16,7 +17,8 @@ use Rattle.list_output.proofs.put_entries.Tie as tie
 
 abbrev Inv-loop : tie.InvT-loop
 Inv-loop text₀ at entries count many next₀ i₀ text next i =
-    (i ≤ many) × Remains at (listText entryText count entries) text₀ next (ended entryText (slice i many entries) []) text
+    (i ≤ many) × Remains at (listText entryText count entries) text₀ next
+    (ended entryText (slice i many entries) []) text
 
 abbrev μ-loop : tie.MeasureT-loop
 μ-loop text₀ at entries count many next₀ i₀ text next i = many - i
@@ -40,14 +42,16 @@ returns c =
     let branch = laid .before .before in
     let start = startOf (branch .before) .args in
     let many = branch .before .smaller in
-    rw (list-none entryText (start .entries .now) (start .count) (many .result) (many .ensures) (omega arith)) (laid .put .ensures)
+    rw (list-none entryText (start .entries .now) (start .count) (many .result) (many .ensures) (omega arith))
+    (laid .put .ensures)
 
 loop-holds : tie.Need-loop-holds Inv-loop μ-loop
 loop-holds c =
     let start = startOf (c .before) .args in
     let many = c .before .smaller in (
       search needs,
-      rw (list-all entryText (start .entries .now) (start .count) (many .result) (many .ensures) (c .if1 .left)) (remains-all _ _ _),
+      rw (list-all entryText (start .entries .now) (start .count) (many .result) (many .ensures) (c .if1 .left))
+          (remains-all _ _ _),
     )
 
 shared-slice-read-put-entry : tie.Need-shared-slice-read-put-entry Inv-loop μ-loop
@@ -93,7 +97,8 @@ returns-2 c =
     let l = c .before .loop in
     let some = c .before .before .before in
     let entries = some .before .before .before .args .entries .now in
-    remains-none (l .inv .1) (ended-none entryText entries (some .smaller .result) (omega arith) (l .i) (c .loop-test .left))
+    remains-none (l .inv .1) (ended-none entryText entries (some .smaller .result) (omega arith) (l .i)
+    (c .loop-test .left))
 
 pub put-entries-spec : {M : Type 1} → statement M
 put-entries-spec =

@@ -1,4 +1,5 @@
--- `list_output::put_numbers` meets its contract: of no item there is the line feed alone. The loop's invariant: the items
+-- `list_output::put_numbers` meets its contract: of no item there is the line feed alone. The loop's invariant: the
+-- items
 -- from i on remain, each with the byte that ends it.
 -- Assumes nothing.
 use mathlib.Core.List.{[]}
@@ -40,14 +41,16 @@ returns c =
     let branch = laid .before .before in
     let start = startOf (branch .before) .args in
     let many = branch .before .smaller in
-    rw (list-none numeral (start .numbers .now) (start .count) (many .result) (many .ensures) (omega arith)) (laid .put .ensures)
+    rw (list-none numeral (start .numbers .now) (start .count) (many .result) (many .ensures) (omega arith))
+    (laid .put .ensures)
 
 loop-holds : tie.Need-loop-holds Inv-loop μ-loop
 loop-holds c =
     let start = startOf (c .before) .args in
     let many = c .before .smaller in (
       search needs,
-      rw (list-all numeral (start .numbers .now) (start .count) (many .result) (many .ensures) (c .if1 .left)) (remains-all _ _ _),
+      rw (list-all numeral (start .numbers .now) (start .count) (many .result) (many .ensures) (c .if1 .left))
+          (remains-all _ _ _),
     )
 
 shared-slice-read-put-byte : tie.Need-shared-slice-read-put-byte Inv-loop μ-loop
@@ -93,7 +96,8 @@ returns-2 c =
     let l = c .before .loop in
     let some = c .before .before .before in
     let numbers = some .before .before .before .args .numbers .now in
-    remains-none (l .inv .1) (ended-none numeral numbers (some .smaller .result) (omega arith) (l .i) (c .loop-test .left))
+    remains-none (l .inv .1) (ended-none numeral numbers (some .smaller .result) (omega arith) (l .i)
+    (c .loop-test .left))
 
 pub put-numbers-spec : {M : Type 1} → statement M
 put-numbers-spec =

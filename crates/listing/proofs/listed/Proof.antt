@@ -16,7 +16,8 @@ use Rattle.listing.proofs.listed.Statement.{statement}
 use Rattle.listing.proofs.listed.Tie as tie
 
 -- a buffer that every listing fits holds the whole listing at its front
-shown : (text : List ℕ) (room r : ℕ) (out : List ℕ) → 20859 ≤ room → r ≡ reportLength text room → out ≡ reported text room → (r ≤ length out) × (take r out ≡ listing text)
+shown : (text : List ℕ) (room r : ℕ) (out : List ℕ) → 20859 ≤ room → r ≡ reportLength text room
+    → out ≡ reported text room → (r ≤ length out) × (take r out ≡ listing text)
 shown text room r out wide p q =
     let w = report-fits text room (omega (arith, listing-bound text)) in
     let blank = replicate {A = ℕ} (room - length (listing text)) 0 in

@@ -32,4 +32,5 @@ returns-2 : tie.Need-returns-2 Inv-loop μ-loop
 returns-2 c = tt
 
 pub skip-rest-spec : {M : Type 1} → statement M
-skip-rest-spec = tie.close (tie.spec Inv-loop μ-loop loop-holds skip-some-requires sub-turns loop-less loop-again returns returns-2)
+skip-rest-spec =
+    tie.close (tie.spec Inv-loop μ-loop loop-holds skip-some-requires sub-turns loop-less loop-again returns returns-2)

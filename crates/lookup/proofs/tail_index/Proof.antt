@@ -27,7 +27,9 @@ add-newest : tie.Need-add-newest
 add-newest c = let s = c .before in omega (arith, mod-lt (s .args .index - 1) {m = s .args .count} (s .pre .0))
 
 returns-2 : tie.Need-returns-2
-returns-2 c = let s = c .before .before in tail-one (s .args .count) (s .args .index) (s .pre .2) (c .before .if1 .left) (c .if2 .taken)
+returns-2 c =
+    let s = c .before .before in tail-one (s .args .count) (s .args .index) (s .pre .2) (c .before .if1 .left)
+    (c .if2 .taken)
 
 sub-result : tie.Need-sub-result
 sub-result c = search needs
@@ -43,15 +45,24 @@ add-result c =
 mul-result : tie.Need-mul-result
 mul-result c =
     let s = c .before .before in
-    omega (arith, mul-le-mul (mod-lt ((s .args .index - 1) / s .args .count - 1) {m = s .args .count} (s .pre .0)) (s .pre .1))
+    omega (
+      arith,
+      mul-le-mul (mod-lt ((s .args .index - 1) / s .args .count - 1) {m = s .args .count} (s .pre .0))
+          (s .pre .1),
+    )
 
 add-result-2 : tie.Need-add-result-2
 add-result-2 c =
     let s = c .before .before in
-    omega (arith, mod-lt (s .args .index - 1) {m = s .args .count} (s .pre .0), mul-le-mul (mod-lt ((s .args .index - 1) / s .args .count - 1) {m = s .args .count} (s .pre .0)) (s .pre .1))
+    omega (
+      arith,
+      mod-lt (s .args .index - 1) {m = s .args .count} (s .pre .0),
+      mul-le-mul (mod-lt ((s .args .index - 1) / s .args .count - 1) {m = s .args .count} (s .pre .0)) (s .pre .1),
+    )
 
 returns-3 : tie.Need-returns-3
-returns-3 c = let s = c .before .before in tail-two (s .args .count) (s .args .index) (s .pre .0) (s .pre .2) (omega arith)
+returns-3 c =
+    let s = c .before .before in tail-two (s .args .count) (s .args .index) (s .pre .0) (s .pre .2) (omega arith)
 
 pub tail-index-spec : {M : Type 1} → statement M
 tail-index-spec =

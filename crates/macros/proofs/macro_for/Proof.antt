@@ -24,12 +24,14 @@ use Rattle.macros.proofs.macro_for.Tie as tie
 -- ── What the calls tell ──────────────────────────────────────────────────────────────────────────
 
 module _ (set : RuleSet) (moves : Sequence) where
-  refuses : (n : ℕ) (r : MacroAnswer) → (r .outcome ≡ n) × (r .result ≡ blankMacro) → worked set moves ≡ record { outcome = n; result = blankMacro } → r ≡ worked set moves
+  refuses : (n : ℕ) (r : MacroAnswer) → (r .outcome ≡ n) × (r .result ≡ blankMacro)
+      → worked set moves ≡ record { outcome = n; result = blankMacro } → r ≡ worked set moves
   refuses n r w e = (λ i. record { outcome = w .0 i; result = w .1 i }) ∙ sym e
 
   -- a well-formed set has at most 31 rules
   numbered-31 : WellFormed set → any (λ r. not (within 1 (set .count) r)) moves ≡ false → Numbered 31 moves
-  numbered-31 formed numbered = numbered-wider (set .count) 31 moves (formed .countLimits .1) (no-unknown-iff (set .count) moves .0 numbered)
+  numbered-31 formed numbered =
+      numbered-wider (set .count) 31 moves (formed .countLimits .1) (no-unknown-iff (set .count) moves .0 numbered)
 
   -- and at most 32 of its rules cost at most 32 times 255
   cost-small : WellFormed set → length moves ≤ 32 → any (λ r. not (within 1 (set .count) r)) moves ≡ false
@@ -45,7 +47,8 @@ refused-requires c κs = search needs
 returns : tie.Need-returns
 returns c =
     let s = c .before .before .before .args in
-    refuses (s .set) (s .moves .now) 11 (c .refused .result) (c .refused .ensures) (worked-long (s .set) (s .moves .now) (c .before .if1 .taken))
+    refuses (s .set) (s .moves .now) 11 (c .refused .result) (c .refused .ensures)
+    (worked-long (s .set) (s .moves .now) (c .before .if1 .taken))
 
 has-unknown-move-requires : tie.Need-has-unknown-move-requires
 has-unknown-move-requires c κs = search needs
@@ -58,7 +61,8 @@ returns-2 c =
     let few = c .before .before .before in
     let s = few .before .before .args in
     refuses (s .set) (s .moves .now) 13 (c .refused2 .result) (c .refused2 .ensures)
-    (worked-unknown (s .set) (s .moves .now) (few .if1 .left) (sym (c .before .before .has-unknown-move .ensures) ∙ c .before .if2 .taken))
+    (worked-unknown (s .set) (s .moves .now) (few .if1 .left)
+    (sym (c .before .before .has-unknown-move .ensures) ∙ c .before .if2 .taken))
 
 composed-requires : tie.Need-composed-requires
 composed-requires c κs =
@@ -78,7 +82,8 @@ returns-3 c =
     let start = few .before .before in
     let s = start .args in
     refuses (s .set) (s .moves .now) 17 (c .refused3 .result) (c .refused3 .ensures)
-    (worked-denied (s .set) (s .moves .now) (few .if1 .left) (start .pre) (sym (numbered .before .has-unknown-move .ensures) ∙ numbered .if2 .left)
+    (worked-denied (s .set) (s .moves .now) (few .if1 .left) (start .pre)
+    (sym (numbered .before .has-unknown-move .ensures) ∙ numbered .if2 .left)
     (lines-denied _ _ (made .composed .ensures) (not-true _ (c .before .if3 .taken))))
 
 cost-of-requires : tie.Need-cost-of-requires

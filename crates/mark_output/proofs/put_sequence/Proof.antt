@@ -40,7 +40,8 @@ sub-put-number : tie.Need-sub-put-number
 sub-put-number c =
     let rules = c .before .before .before in
     let start = rules .before .before .args in
-    rule-before (start .count) (rules .some-rules .result) (rules .some-rules .ensures) (start .index) (c .before .if2 .left)
+    rule-before (start .count) (rules .some-rules .result) (rules .some-rules .ensures) (start .index)
+    (c .before .if2 .left)
 
 rem-put-number : tie.Need-rem-put-number
 rem-put-number c = search needs
@@ -75,7 +76,11 @@ add-put-number-2 c =
     let comma = c .before .before .before in
     let rules = branchOf (firstOf comma) .before .before in
     let start = rules .before .before .args in
-    omega (arith, rule-number (start .count) (rules .some-rules .result) (rules .some-rules .ensures) (start .index - 1))
+    omega (
+      arith,
+      rule-number (start .count) (rules .some-rules .result) (rules .some-rules .ensures)
+          (start .index - 1),
+    )
 
 put-number-requires-3 : tie.Need-put-number-requires-3
 put-number-requires-3 c κs = search needs

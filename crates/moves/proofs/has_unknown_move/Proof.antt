@@ -12,7 +12,8 @@ use Rattle.moves.proofs.has_unknown_move.Statement.{statement}
 use Rattle.moves.proofs.has_unknown_move.Tie as tie
 
 abbrev Inv-loop : tie.InvT-loop
-Inv-loop count moves i₀ i = (i ≤ length moves) × (any (λ n. not (within 1 count n)) (drop i moves) ≡ any (λ n. not (within 1 count n)) moves)
+Inv-loop count moves i₀ i =
+    (i ≤ length moves) × (any (λ n. not (within 1 count n)) (drop i moves) ≡ any (λ n. not (within 1 count n)) moves)
 
 abbrev μ-loop : tie.MeasureT-loop
 μ-loop count moves i₀ i = length moves - i
@@ -50,13 +51,15 @@ loop-again c =
     let at = headOf (c .before .before) in
     let s = at .before .args in (
       search needs,
-      unknown-go (s .count) (s .moves .now) (at .loop .i) _ (at .loop .inv .1) (omega arith) (omega arith) (omega arith),
+      unknown-go (s .count) (s .moves .now) (at .loop .i) _ (at .loop .inv .1) (omega arith) (omega arith)
+          (omega arith),
     )
 
 returns-3 : tie.Need-returns-3 Inv-loop μ-loop
 returns-3 c =
     let at = c .before in
-    unknown-none (at .before .args .count) (at .before .args .moves .now) (at .loop .i) _ (at .loop .inv .1) (omega arith)
+    unknown-none (at .before .args .count) (at .before .args .moves .now) (at .loop .i) _ (at .loop .inv .1)
+    (omega arith)
 
 pub has-unknown-move-spec : {M : Type 1} → statement M
 has-unknown-move-spec =

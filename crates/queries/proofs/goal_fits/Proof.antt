@@ -84,8 +84,11 @@ loop-again c =
     let size = getD (s .set .sizes) (l .i) 0 in
     let passed : test (s .set .sizes) (s .goal .now) (l .i) ≡ true =
     ⊎-elim (λ w. or-right (eqb byte anyValue) (lt-ltb byte size (w .2 .left)))
-    (λ w. or-left (ltb byte size) (eq-eqb byte anyValue (w .left))) (c .if2 .came) in
-    (search needs, every-go (test (s .set .sizes) (s .goal .now)) (l .i) (s .set .positions) _ (l .inv .1) (omega arith) passed)
+    (λ w. or-left (ltb byte size) (eq-eqb byte anyValue (w .left))) (c .if2 .came) in (
+      search needs,
+      every-go (test (s .set .sizes) (s .goal .now)) (l .i) (s .set .positions) _ (l .inv .1)
+          (omega arith) passed,
+    )
 
 returns-3 : tie.Need-returns-3 Inv-loop μ-loop
 unfolding goalFits

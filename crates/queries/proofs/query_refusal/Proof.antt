@@ -1,4 +1,5 @@
--- `queries::query_refusal` meets its contract: a refusal that the check and the query share is the answer at once; else the query's own causes decide in turn.
+-- `queries::query_refusal` meets its contract: a refusal that the check and the query share is the answer at once; else
+-- the query's own causes decide in turn.
 -- Assumes nothing.
 use mathlib.Core.Path.{_≡_, sym, _∙_}
 use mathlib.Core.Logic.{⊎-elim, inl, inr}
@@ -9,7 +10,8 @@ use borrow.Author.Needs.{needs}
 use Rattle.model_spec.proofs.LoopLaws.{failed, passed}
 use Rattle.tables_spec.specs.Answers.{Ready}
 use Rattle.search_spec.specs.Query.{Query, asked, startFits, goalFits}
-use Rattle.search_spec.proofs.OutcomeLaws.{checked-ready, start-refusal, goal-refusal, moves-refusal, room-refusal, last-refusal, shared-refusal}
+use Rattle.search_spec.proofs.OutcomeLaws.{checked-ready, start-refusal, goal-refusal, moves-refusal, room-refusal}
+use Rattle.search_spec.proofs.OutcomeLaws.{last-refusal, shared-refusal}
 use Rattle.queries.proofs.query_refusal.Statement.{statement}
 use Rattle.queries.proofs.query_refusal.Tie as tie
 
@@ -59,7 +61,8 @@ returns-2 c cost limit =
     start-refusal (s .args .set) (queryOf s cost limit) (s .args .plan-size) (ready (c .before .before)) misfit
 
 -- past the second, the start fits
-start-fits : (c : tie.Else3) → let s = startOf (c .before .before) in startFits (s .args .set) (s .args .start .now) ≡ true
+start-fits : (c : tie.Else3) → let s = startOf (c .before .before) in
+    startFits (s .args .set) (s .args .start .now) ≡ true
 start-fits c = passed (c .before .start-fits .ensures) (c .if3 .left)
 
 goal-fits-requires : tie.Need-goal-fits-requires

@@ -60,7 +60,8 @@ returns-2 c =
     let head = c .before .before .before in
     let s = startOf head .args in
     let l = head .loop in
-    every-stop (test (s .set .sizes) (s .start .now)) (l .i) (s .set .positions) _ (l .inv .1) (omega arith) (le-ltb _ _ (c .if2 .taken))
+    every-stop (test (s .set .sizes) (s .start .now)) (l .i) (s .set .positions) _ (l .inv .1) (omega arith)
+    (le-ltb _ _ (c .if2 .taken))
 
 add-i : tie.Need-add-i Inv-loop μ-loop
 add-i c = search needs
@@ -72,8 +73,11 @@ loop-again : tie.Need-loop-again Inv-loop μ-loop
 loop-again c =
     let head = c .before .before .before in
     let s = startOf head .args in
-    let l = head .loop in
-    (search needs, every-go (test (s .set .sizes) (s .start .now)) (l .i) (s .set .positions) _ (l .inv .1) (omega arith) (lt-ltb _ _ (c .if2 .left)))
+    let l = head .loop in (
+      search needs,
+      every-go (test (s .set .sizes) (s .start .now)) (l .i) (s .set .positions) _ (l .inv .1)
+          (omega arith) (lt-ltb _ _ (c .if2 .left)),
+    )
 
 returns-3 : tie.Need-returns-3 Inv-loop μ-loop
 unfolding startFits

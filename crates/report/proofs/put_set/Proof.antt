@@ -1,4 +1,5 @@
--- `report::put_set` meets its contract: the part of the array that is lent has room for the table, and the array for that
+-- `report::put_set` meets its contract: the part of the array that is lent has room for the table, and the array for
+-- that
 -- part.
 -- Assumes nothing.
 use mathlib.Core.Path.{_≡_, sym, ap, _∙_}
@@ -20,7 +21,8 @@ module _ (set : RuleSet) (valid : Valid set) (entries : ℕ) (e : entries ≡ se
   part-limit = omega (arith, count-prefix (set .count) 2 (valid .formed .countLimits .1) (omega arith))
 
   part-length : length (take (2 * entries) (replicate {A = ℕ} 1986 0)) ≡ 2 * entries
-  part-length = length-take-le (2 * entries) (replicate 1986 0) (omega (arith, part-limit, length-replicate {A = ℕ} 1986 0))
+  part-length =
+      length-take-le (2 * entries) (replicate 1986 0) (omega (arith, part-limit, length-replicate {A = ℕ} 1986 0))
 
   -- it has room for the table
   part-fits : length (take (2 * entries) (replicate {A = ℕ} 1986 0)) ≡ 2 * tableEntries set 2

@@ -1,4 +1,5 @@
--- `report::report` meets its contract: what either way out gives and leaves is the definitions', which have their meaning.
+-- `report::report` meets its contract: what either way out gives and leaves is the definitions', which have their
+-- meaning.
 -- Assumes nothing.
 use mathlib.Core.Path.{_≡_, sym, ap, _∙_}
 use mathlib.Core.Bool.{cond}

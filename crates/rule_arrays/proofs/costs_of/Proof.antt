@@ -1,4 +1,5 @@
--- `rule_arrays::costs_of` meets its contract. The invariant: the first k places hold the costs of their rules, the others still zeros.
+-- `rule_arrays::costs_of` meets its contract. The invariant: the first k places hold the costs of their rules, the
+-- others still zeros.
 -- Assumes nothing.
 use mathlib.Core.Path.{_≡_, refl}
 use mathlib.Core.List.{map}
@@ -37,14 +38,18 @@ loop-less c = search needs
 loop-again : tie.Need-loop-again Inv-loop μ-loop
 loop-again c =
     let start = c .before .before .before in
-    let l = c .before .before .loop in
-    (search needs, row-more (λ rule. rule .cost) _ (start .args .t1 .rules) (l .k) (l .costs) (l .inv .1) _ (omega arith) (omega (arith, rules-31 (start .args .t1) _ (start .good .0))))
+    let l = c .before .before .loop in (
+      search needs,
+      row-more (λ rule. rule .cost) _ (start .args .t1 .rules) (l .k) (l .costs) (l .inv .1) _
+          (omega arith) (omega (arith, rules-31 (start .args .t1) _ (start .good .0))),
+    )
 
 returns : tie.Need-returns Inv-loop μ-loop
 returns c =
     let start = c .before .before in
     let l = c .before .loop in
-    row-whole (λ rule. rule .cost) _ (start .args .t1 .rules) (l .k) (l .costs) (l .inv .1) (omega arith) (omega (arith, rules-31 (start .args .t1) _ (start .good .0)))
+    row-whole (λ rule. rule .cost) _ (start .args .t1 .rules) (l .k) (l .costs) (l .inv .1) (omega arith)
+    (omega (arith, rules-31 (start .args .t1) _ (start .good .0)))
 
 pub costs-of-spec : {M : Type 1} → statement M
 costs-of-spec =

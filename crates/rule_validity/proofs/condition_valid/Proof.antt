@@ -1,4 +1,5 @@
--- `rule_validity::condition_valid` meets its contract. The invariant: the tests of the places from i on decide the whole.
+-- `rule_validity::condition_valid` meets its contract. The invariant: the tests of the places from i on decide the
+-- whole.
 -- Assumes nothing.
 use mathlib.Core.Path.{_≡_}
 use native.Mathlib.Omega.{arith}
@@ -10,7 +11,8 @@ use borrow.Author.Needs.{needs}
 use Rattle.theory_spec.specs.Lists.{every, numbersFrom}
 use Rattle.theory_spec.proofs.ListLaws.{and-join}
 use Rattle.model_spec.specs.Validity.{entryLimited, conditionPlaced, conditionValid}
-use Rattle.model_spec.proofs.LoopLaws.{failed, passed, every-go, every-stop, every-end, sized, first-fails, second-fails}
+use Rattle.model_spec.proofs.LoopLaws.{failed, passed, every-go, every-stop, every-end, sized, first-fails}
+use Rattle.model_spec.proofs.LoopLaws.{second-fails}
 use Rattle.rule_validity.proofs.condition_valid.Statement.{statement}
 use Rattle.rule_validity.proofs.condition_valid.Tie as tie
 

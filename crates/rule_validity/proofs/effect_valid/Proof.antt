@@ -10,7 +10,8 @@ use borrow.Author.Needs.{needs}
 use Rattle.theory_spec.specs.Lists.{every, numbersFrom}
 use Rattle.theory_spec.proofs.ListLaws.{and-join}
 use Rattle.model_spec.specs.Validity.{entryLimited, effectPlaced, effectValid}
-use Rattle.model_spec.proofs.LoopLaws.{failed, passed, every-go, every-stop, every-end, sized, first-fails, second-fails}
+use Rattle.model_spec.proofs.LoopLaws.{failed, passed, every-go, every-stop, every-end, sized, first-fails}
+use Rattle.model_spec.proofs.LoopLaws.{second-fails}
 use Rattle.rule_validity.proofs.effect_valid.Statement.{statement}
 use Rattle.rule_validity.proofs.effect_valid.Tie as tie
 

@@ -1,4 +1,5 @@
--- `search::put_moves` meets its contract. The invariant: the first i bytes of the buffer are moves, the others what they were.
+-- `search::put_moves` meets its contract. The invariant: the first i bytes of the buffer are moves, the others what
+-- they were.
 -- Assumes nothing.
 use mathlib.Core.Path.{_≡_, refl, _∙_}
 use Prim.Native.Nat.{_≤_, _-_}

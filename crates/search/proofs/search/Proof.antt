@@ -1,4 +1,5 @@
--- `search::search` meets its contract: each way out leaves what the definition `searched` leaves, which has its meaning.
+-- `search::search` meets its contract: each way out leaves what the definition `searched` leaves, which has its
+-- meaning.
 -- Assumes nothing.
 use mathlib.Core.Path.{_≡_, refl, sym, ap, _∙_, subst}
 use mathlib.Core.Bool.{true}

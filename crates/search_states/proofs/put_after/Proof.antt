@@ -1,4 +1,5 @@
--- `search_states::put_after` meets its contract. The invariant: the first i places hold the values of the effect's entries, the
+-- `search_states::put_after` meets its contract. The invariant: the first i places hold the values of the effect's
+-- entries, the
 -- others what they held.
 -- Assumes nothing.
 use mathlib.Core.Path.{_≡_, sym, _∙_}

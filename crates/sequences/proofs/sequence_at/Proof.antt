@@ -87,7 +87,8 @@ loop-again c =
       l .loop .inv .1,
       search needs,
       length-set (l .loop .rules) _ _ ∙ l .loop .inv .3,
-      l .loop .inv .4 ∙ sequence-go m (l .loop .start) (l .loop .rest) (l .loop .rules) (omega arith) (omega arith) (omega arith),
+      l .loop .inv .4 ∙ sequence-go m (l .loop .start) (l .loop .rest) (l .loop .rules) (omega arith) (omega arith)
+          (omega arith),
     )
 
 returns-2 : tie.Need-returns-2 Inv-loop μ-loop

@@ -53,7 +53,8 @@ same-length c = remains-length (c .before .loop .inv .1)
 returns : tie.Need-returns Inv-loop μ-loop
 returns c =
     let s = startOf (c .before) .args in
-    remains-none (c .before .loop .inv .1) (lines-end (s .table .now) (s .count) (c .before .loop .i) (c .loop-test .left))
+    remains-none (c .before .loop .inv .1) (lines-end (s .table .now) (s .count) (c .before .loop .i)
+    (c .loop-test .left))
 
 pub put-marks-spec : {M : Type 1} → statement M
 put-marks-spec =

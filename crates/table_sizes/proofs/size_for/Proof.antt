@@ -12,10 +12,14 @@ use Rattle.table_sizes.proofs.size_for.Statement.{statement}
 use Rattle.table_sizes.proofs.size_for.Tie as tie
 
 returns : tie.Need-returns
-returns c = let s = c .before .args in sym (ap (sizeWith (s .set) (s .reach)) (reach-refused (s .set) (s .reach) (λ r. omega arith)))
+returns c =
+    let s = c .before .args in sym (ap (sizeWith (s .set) (s .reach))
+    (reach-refused (s .set) (s .reach) (λ r. omega arith)))
 
 returns-2 : tie.Need-returns-2
-returns-2 c = let s = c .before .before .args in sym (ap (sizeWith (s .set) (s .reach)) (reach-refused (s .set) (s .reach) (λ r. omega arith)))
+returns-2 c =
+    let s = c .before .before .args in sym (ap (sizeWith (s .set) (s .reach))
+    (reach-refused (s .set) (s .reach) (λ r. omega arith)))
 
 sequence-count-requires : tie.Need-sequence-count-requires
 sequence-count-requires c κs = search needs

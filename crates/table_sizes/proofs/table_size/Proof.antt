@@ -15,7 +15,8 @@ use Rattle.table_sizes.proofs.table_size.Statement.{statement}
 use Rattle.table_sizes.proofs.table_size.Tie as tie
 
 -- the definition's answer has its meaning
-answers : (set : RuleSet) (reach : ℕ) (r : TableSize) → tableSize set reach ≡ r → (r ≡ tableSize set reach) × SizeMeaning set reach r
+answers : (set : RuleSet) (reach : ℕ) (r : TableSize) → tableSize set reach ≡ r → (r ≡ tableSize set reach)
+    × SizeMeaning set reach r
 answers set reach r e = (sym e, subst (SizeMeaning set reach) e (size-meaning set reach))
 
 is-valid-requires : tie.Need-is-valid-requires
@@ -35,7 +36,8 @@ returns-2 : tie.Need-returns-2
 returns-2 c =
     let judged = c .before in
     let s = judged .before .before .args in
-    answers (s .set) (s .reach) _ (size-judged (s .set) (s .reach) (passed (judged .before .is-valid .ensures .0) (judged .if1 .left)) ∙ sym (c .size-for .ensures))
+    answers (s .set) (s .reach) _ (size-judged (s .set) (s .reach)
+    (passed (judged .before .is-valid .ensures .0) (judged .if1 .left)) ∙ sym (c .size-for .ensures))
 
 pub table-size-spec : {M : Type 1} → statement M
 table-size-spec = tie.close (tie.spec is-valid-requires returns size-for-requires returns-2)

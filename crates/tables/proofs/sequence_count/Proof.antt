@@ -36,12 +36,20 @@ returns c =
 mul-first : tie.Need-mul-first Inv-loop μ-loop
 mul-first c =
     let l = c .before .before in
-    omega (arith, next-bound (l .before .args .count) (l .loop .n) (l .loop .first) (omega arith) (omega arith) (l .loop .inv .2))
+    omega (
+      arith,
+      next-bound (l .before .args .count) (l .loop .n) (l .loop .first) (omega arith) (omega arith)
+          (l .loop .inv .2),
+    )
 
 add-first : tie.Need-add-first Inv-loop μ-loop
 add-first c =
     let l = c .before .before in
-    omega (arith, next-bound (l .before .args .count) (l .loop .n) (l .loop .first) (omega arith) (omega arith) (l .loop .inv .2))
+    omega (
+      arith,
+      next-bound (l .before .args .count) (l .loop .n) (l .loop .first) (omega arith) (omega arith)
+          (l .loop .inv .2),
+    )
 
 add-n : tie.Need-add-n Inv-loop μ-loop
 add-n c = search needs

@@ -1,4 +1,5 @@
--- `writer::write` meets its contract. Each way out has one cause or none, and zeros after what was laid; the place after
+-- `writer::write` meets its contract. Each way out has one cause or none, and zeros after what was laid; the place
+-- after
 -- a valid set's file is the file's length. What is left has its meaning.
 -- Assumes nothing.
 use mathlib.Core.Path.{_≡_, refl, ap, _∙_}
@@ -37,7 +38,8 @@ module _ (set : RuleSet) (room : ℕ) where
   no-room t h = rw (t, lt-ltb room (length (render set)) h) (refl, refl)
 
   fits : (end : ℕ) → valid set ≡ true → end ≡ length (render set) → end ≤ room
-      → (record { outcome = 0; length = end } ≡ written set room) × (padded room 0 (render set) ≡ writtenBuffer set room)
+      → (record { outcome = 0; length = end } ≡ written set room)
+      × (padded room 0 (render set) ≡ writtenBuffer set room)
   unfolding written writtenBuffer writtenText writeCauses
   fits end t e h = rw (t, le-ltb room (length (render set)) (omega arith), e) (refl, refl)
 
