@@ -1,7 +1,7 @@
 -- `mark_output::put_sequence` meets its contract: no rule, one, or two with a comma between them. A rule's number is a
 -- byte, and so has at most three digits.
 -- Assumes nothing.
-use Prim.Native.Nat.{ℕ, _+_, _-_, _/_, _%_}
+use Prim.Native.Nat.{ℕ, _+_, _-_, _/_, _%_, _<_}
 use native.Mathlib.Omega.{arith}
 use borrow.Author.Needs.{needs}
 use Rattle.output_laws.proofs.OverlayLaws.{shown-number, laid-none, laid-append}
@@ -30,7 +30,7 @@ returns-2 c =
     let rules = branch .before .before in
     let start = rules .before .before .args in
     let one = text-one (start .count) (rules .some-rules .result) (rules .some-rules .ensures) in
-    rw (one (start .index) (branch .before .if1 .left) (branch .if2 .taken))
+    rw (one (start .index) (branch .before .if1 .left) (omega (arith, branch .if2 .taken)))
     (rw (shown-number (start .index) (omega arith)) at (number .put-number .ensures))
 
 div-put-number : tie.Need-div-put-number
@@ -40,8 +40,8 @@ sub-put-number : tie.Need-sub-put-number
 sub-put-number c =
     let rules = c .before .before .before in
     let start = rules .before .before .args in
-    rule-before (start .count) (rules .some-rules .result) (rules .some-rules .ensures) (start .index)
-    (c .before .if2 .left)
+    let two : rules .some-rules .result < start .index = omega (arith, c .before .if2 .left) in
+    rule-before (start .count) (rules .some-rules .result) (rules .some-rules .ensures) (start .index) two
 
 rem-put-number : tie.Need-rem-put-number
 rem-put-number c = search needs
