@@ -50,12 +50,12 @@ loop-again c =
     let effect = start .args .effect .now in
     let state = start .args .state .now in
     let near : l .loop .i < 16 = omega (arith, turn .loop-test .taken, l .before .smaller .ensures) in
+    let led = c .value .ensures ∙ sym (successor-at effect state (l .loop .i)) in
     let sixteen = l .before .before .entries .given .0 in
     let long : length (successor effect state) ≡ 16 = successor-length effect state ∙ sixteen in (
       omega (arith, turn .loop-test .taken),
       laid-more (l .loop .i) (successor effect state) (start .args .next .now) _ _ (omega (arith, near, long))
-          (l .loop .inv .1)
-          (c .value .ensures ∙ sym (successor-at effect state (l .loop .i))),
+          (l .loop .inv .1) led,
     )
 
 returns : tie.Need-returns Inv-loop μ-loop
