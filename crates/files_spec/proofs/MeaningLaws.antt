@@ -27,6 +27,7 @@ judge-meaning text =
       noOther = reading-bound text;
     }
 
+-- what reading gives has its meaning, for every text
 pub read-meaning : (text : List ℕ) → ReadMeaning text (reading text)
 read-meaning text =
     record {
@@ -35,6 +36,7 @@ read-meaning text =
       refused = reading-refused text;
     }
 
+-- what writing gives and leaves has its meaning, for every set and room
 pub write-meaning : (set : RuleSet) (room : ℕ) → WriteMeaning set room (written set room) (writtenBuffer set room)
 unfolding written writtenBuffer
 write-meaning set room =

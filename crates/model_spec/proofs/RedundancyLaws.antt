@@ -32,6 +32,7 @@ sameEnd-iff (some t) (some u) = (
   λ f. same-iff t u .1 (sym (Option·some-injective u t (f t refl))),
 )
 
+-- the test of redundancy passes exactly if the statement over all states holds
 pub redundant-iff : (set : RuleSet) (b a : Sequence) → (redundant set b a ≡ true) ↔ RedundantIn set b a
 unfolding redundant runIn sequenceCost
 redundant-iff set b a =
@@ -49,6 +50,7 @@ isSome-iff : (o : Option State) → (isSome o ≡ true) ↔ ((t : State) × (o �
 isSome-iff none = (λ e. absurd (false≢true e), λ w. absurd (Option·none-ne-some (w .0) (w .1)))
 isSome-iff (some t) = (λ _. (t, refl), λ _. refl)
 
+-- the test of admission passes exactly if the sequence can be run in some state of the set
 pub admitted-iff : (set : RuleSet) (q : Sequence) → (admitted set q ≡ true)
     ↔ ((s : State) × (t : State) × StateOf set s × (runIn set q s ≡ some t))
 unfolding admitted

@@ -20,9 +20,11 @@ past [] after n h = refl
 past ((m, true) ∷ before) after n h = absurd (true≢false (h .0))
 past ((m, false) ∷ before) after n h = past before after n (h .1)
 
+-- a number is given exactly if its cause holds and none before it does
 pub refusal-iff : (causes : List Cause) (n : ℕ) → n ≢ 0 → (firstRefusal causes ≡ n) ↔ First n causes
 refusal-iff causes n h = (to-first causes n h, λ w. ap firstRefusal (w .2) ∙ past (w .0) (w .1) n (w .3))
 
+-- 0 is given exactly if no cause holds
 pub no-refusal-iff : (causes : List Cause) → NonZero causes → (firstRefusal causes ≡ 0) ↔ NoneHolds causes
 no-refusal-iff [] z = (λ _. tt, λ _. refl)
 no-refusal-iff ((n, true) ∷ causes) z = (λ e. absurd (z .0 e), λ h. absurd (true≢false (h .0)))

@@ -56,6 +56,7 @@ at-numbers f k (suc n) (suc i) h = at-numbers f (suc k) n i (omega arith) ∙ ap
 pub at-places : (f : ℕ → ℕ) (i : ℕ) → i < 16 → getD (map f places) i 0 ≡ f i
 at-places f i h = at-numbers f 0 16 i h ∙ ap f (omega arith)
 
+-- the states of the sizes are exactly the lists with a value below its width at every place
 pub states-iff : (positions : ℕ) (sizes : List ℕ) (s : State) → (s ∈ states positions sizes) ↔ IsState positions sizes s
 unfolding states
 states-iff positions sizes s = (
@@ -71,6 +72,7 @@ states-iff positions sizes s = (
 
 -- ── Widths ───────────────────────────────────────────────────────────────────────────────────────
 
+-- a position has as many values as its size says
 pub width-position : (positions : ℕ) (sizes : List ℕ) (i : ℕ) → i < positions → width positions sizes i ≡ getD sizes i 0
 unfolding width
 width-position positions sizes i h = rw (lt-ltb i positions h)
@@ -81,10 +83,12 @@ width-beyond positions sizes i h = rw (le-ltb i positions h)
 
 -- ── Entries ──────────────────────────────────────────────────────────────────────────────────────
 
+-- a constant stands for itself
 pub value-constant : (e : ℕ) (s : State) → e < 16 → valueOf e s ≡ e
 unfolding valueOf
 value-constant e s h = rw (lt-ltb e 16 h)
 
+-- a variable stands for what its position holds
 pub value-variable : (e : ℕ) (s : State) → 16 ≤ e → e < 32 → valueOf e s ≡ getD s (e - 16) 0
 unfolding valueOf
 value-variable e s h k = rw (le-ltb e 16 h) (ap (λ i. getD s i 0) (omega arith))
@@ -99,6 +103,7 @@ values-length entries s = length-map entries (λ e. valueOf e s)
 
 -- ── Conditions and effects ───────────────────────────────────────────────────────────────────────
 
+-- a rule runs exactly if every entry of its condition stands for what its place holds
 pub applicable-iff : (condition : List ℕ) (s : State) → (applicable condition s ≡ true) ↔ (valuesOf condition s ≡ s)
 unfolding applicable
 applicable-iff condition s = same-iff (valuesOf condition s) s
@@ -117,6 +122,7 @@ applicable-at-iff condition s hc hs = (down, up)
         applicable-iff condition s .1 (ext-getD 0 (valuesOf condition s) s (n ∙ hc ∙ sym hs)
         (λ i h. values-at condition s i ∙ sym (f i (omega arith))))
 
+-- after a rule each place holds what the effect's entry stood for before it
 pub successor-at : (effect : List ℕ) (s : State) (i : ℕ) → getD (successor effect s) i 0 ≡ valueOf (getD effect i 0) s
 unfolding successor
 successor-at effect s i = values-at effect s i

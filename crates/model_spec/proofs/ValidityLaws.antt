@@ -159,6 +159,7 @@ pub duplicate-iff : (a b : Rule) → (duplicate a b ≡ true) ↔ ((a .condition
 unfolding duplicate
 duplicate-iff a b = and-iff _ _ (same-iff _ _) (same-iff _ _)
 
+-- the test for duplicates passes exactly if some rule has the lines of an earlier one
 pub duplicates-iff : (rules : List Rule) (n : ℕ) → (hasDuplicates rules n ≡ true)
     ↔ ((k : ℕ) × (k < n)
     × ((j : ℕ) × (j < k) × ((getD rules j noRule .condition ≡ getD rules k noRule .condition)
@@ -214,6 +215,7 @@ formed-iff set =
           ),
     )
 
+-- the test of validity passes exactly if the set is valid
 pub valid-iff : (set : RuleSet) → (valid set ≡ true) ↔ Valid set
 unfolding valid
 valid-iff set =
@@ -273,6 +275,7 @@ onlyIf-iff : (b : Bool) (s t : State) → (onlyIf b s ≡ some t) ↔ ((b ≡ tr
 onlyIf-iff true s t = (λ e. (refl, sym (Option·some-injective s t e)), λ w. ap {B = Option State} some (sym (w .1)))
 onlyIf-iff false s t = (λ e. absurd (Option·none-ne-some t e), λ w. absurd (false≢true (w .0)))
 
+-- a rule leads from a state to another exactly if it runs there and the other is where its effect leads
 pub step-iff : (set : RuleSet) (r : ℕ) (s t : State) → (stepOf set r s ≡ some t)
     ↔ ((applicable (ruleAt set r .condition) s ≡ true) × (t ≡ successor (ruleAt set r .effect) s))
 unfolding stepOf

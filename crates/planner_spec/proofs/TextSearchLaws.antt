@@ -90,6 +90,7 @@ module _ (text : List ℕ) (query : Query) (room : ℕ) where
 
   -- ── What it means ──────────────────────────────────────────────────────────────────────────────
 
+  -- what the search of a rule text gives and leaves has its meaning, for every text, query and room
   pub text-search-meaning : TextSearchMeaning text query room (searchedText text query room)
   unfolding textRefused
   text-search-meaning =

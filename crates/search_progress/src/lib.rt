@@ -54,8 +54,9 @@ fn lower(a: u16, b: u16) -> u16
     if a < b { a } else { b }
 }
 
-// Visits one sequence: the first `depth` moves of the plan, which have led to the state at that cost. The limit is
-// compared before one is added. A plan that replaces the best is kept with its whole array.
+// Visits one sequence: the first `depth` moves of the plan, which have led to the state at that cost. At the limit it
+// adds no step, tells that the limit is exceeded, and lowers the floor to the least cost met there (`Progress`, in
+// search_laws). A plan that replaces the best is kept with its whole array.
 pub fn noted(
     goal: &[u8],
     step_limit: u32,

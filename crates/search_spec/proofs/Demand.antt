@@ -98,6 +98,7 @@ module _ (set : RuleSet) (query : Query) where
           refusal-append (queryCauses set query room) (ends (ltb (query .stepLimit) count) (cheapestPlan set query))
           (query-numbers set query room) h
 
+      -- a query that is not refused and has more sequences to visit than the limit ends in 16
       pub limited-outcome : ltb (query .stepLimit) count ≡ true → outcome ≡ 16
       limited-outcome e = begins ∙ ap (λ b. firstRefusal (ends b (cheapestPlan set query))) e
 

@@ -159,6 +159,7 @@ module _ (set : RuleSet) (query : Query) (room : ℕ) where
       let i = not-iff (isSome (cheapestPlan set query)) some-plan-iff in
       (λ e q h. i .0 e (q, h), λ n. i .1 (λ w. n (w .0) (w .1)))
 
+  -- what a search gives and leaves has its meaning, for every set, query and room
   pub search-meaning : SearchMeaning set query room (searched set query room)
   unfolding searched searchedWith searchCauses queryCauses tableCauses buildOutcome
   search-meaning =

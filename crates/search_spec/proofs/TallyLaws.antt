@@ -35,6 +35,7 @@ module _ (tally : Tally) (outcome steps : ℕ) where
       go (inr l) (inr m) (inr n) =
           rw (ne-eqb outcome 0 l, ne-eqb outcome 15 m, ne-eqb outcome 16 n) (3, lit< tt, refl, refl)
 
+  -- one count is raised by one, or stays at its top, and the others stay as they were
   pub one-raised : OneRaised tally (talliedOf tally outcome steps)
   one-raised =
       let i = updated .0 in
@@ -52,6 +53,7 @@ module _ (tally : Tally) (outcome steps : ℕ) where
       at : (j : ℕ) → countAt (talliedOf tally outcome steps) j ≡ getD (raisedAt (updated .0)) j 0
       at j = ap (λ l. getD l j 0) (updated .3)
 
+  -- the tally after a query has its meaning, for every tally, outcome and number of steps
   pub tally-meaning : TallyMeaning outcome steps tally (talliedOf tally outcome steps)
   unfolding talliedOf one-raised
   tally-meaning =

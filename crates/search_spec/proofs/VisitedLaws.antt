@@ -87,6 +87,7 @@ module _ (set : RuleSet) (query : Query) where
           h (w .2 .1 .0) (w .0) (w .2 .1 .1) (w .2 .1 .2) (w .2 .0)
           (marked-iff set (query .reach) (query .table) (w .0) .0 (w .1)))
 
+  -- the visited sequences are exactly the unpruned ones that can be run from the start within both bounds
   pub visited-iff : (q : Sequence) → (q ∈ visitedBy set query) ↔ (RunsWithin set query q × Unpruned set query q)
   unfolding visitedBy runIn sequenceCost
   visited-iff q = (down, up)
@@ -116,6 +117,7 @@ module _ (set : RuleSet) (query : Query) where
       pairwise-keep (λ (a b : Sequence). a ≢ b) visits (depthFirst (set .count) (query .maxMoves))
       (depthFirst-distinct (set .count) (query .maxMoves))
 
+  -- the plans are exactly the rule sequences that lead to the goal within both bounds, pruned or not
   pub plans-iff : (q : Sequence) → (q ∈ plansFor set query) ↔ LeadsToGoal set query q
   unfolding plansFor runIn sequenceCost
   plans-iff q = (down, up)

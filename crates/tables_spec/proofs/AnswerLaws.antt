@@ -140,6 +140,7 @@ module _ (set : RuleSet) (reach size : ℕ) where
       → LeastWitness set reach i (entryAt (builtBuffer set reach size) i)
   built-least-marks e i h = rw (built-whole e, built-entry set reach i h) (built-least set reach i h)
 
+  -- what the builder gives and leaves has its meaning, for every set, reach and length
   pub build-meaning : BuildMeaning set reach size (buildOutcome set reach size) (builtBuffer set reach size)
   build-meaning = record {
     notValid = rw build-alone (invalid-iff [] (λ e. omega arith));
@@ -259,6 +260,7 @@ module _ (set : RuleSet) (reach : ℕ) (table : List ℕ) where
       go true e = h₀ (sym e)
       go false e = h₁₄ (sym e)
 
+  -- the check's outcome has its meaning, for every set, reach and table
   pub check-meaning : CheckMeaning set reach table (checkOutcome set reach table)
   check-meaning =
       let no = later-iff set reach (length table) judgement 14 (λ e. omega arith) (λ e. omega arith)

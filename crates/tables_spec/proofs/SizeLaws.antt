@@ -55,6 +55,7 @@ module _ (set : RuleSet) (reach : ℕ) where
   unfolding tableEntries
   bytes-bound v r = omega (arith, count-bound (set .count) reach (v .formed .countLimits .1) (r .1))
 
+  -- the size of a table has its meaning, for every set and reach
   pub size-meaning : SizeMeaning set reach (tableSize set reach)
   size-meaning = go size-answered
     where

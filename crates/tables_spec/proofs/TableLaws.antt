@@ -174,6 +174,7 @@ module _ (set : RuleSet) (reach : ℕ) where
 
   -- ── Marks ──────────────────────────────────────────────────────────────────────────────────────
 
+  -- the test of a mark passes exactly if the sequence is marked
   pub marked-iff : (table : List ℕ) (q : Sequence) → (marked set reach table q ≡ true) ↔ Marked set reach table q
   unfolding marked
   marked-iff table q =
@@ -335,7 +336,7 @@ module _ (set : RuleSet) (reach : ℕ) where
             let r = subst (RedundantIn set (sequenceAt set reach i)) (sym (w .2)) (p .redundantWith) in
             not-both (redundant-iff set _ _ .1 r) (none (w .0) (index-before-iff (w .0) i (w .1) h .1 b))
 
-    -- the built table marks exactly the prunable sequences
+    -- the built table marks exactly the prunable sequences, of at most 31 rules and with a reach of at most 3
     pub built-marks-iff : (q : Sequence) → (marked set reach (builtTable set reach) q ≡ true) ↔ Prunable set reach q
     built-marks-iff q = (down, up)
       where

@@ -37,6 +37,7 @@ in-segments-cons : (x : Sequence) (r : ℕ) (b y : Sequence) → (r ∷ b) ∈ s
 in-segments-cons [] r b y = Memᴰ·append-left (segments (b ++ y)) (in-prefixes r b y)
 in-segments-cons (p ∷ x) r b y = Memᴰ·append-right (prefixes (p ∷ (x ++ (r ∷ b) ++ y))) (in-segments-cons x r b y)
 
+-- what stands within a sequence and is not empty is one of its segments
 pub in-segments : (x b y : Sequence) → b ≢ [] → b ∈ segments (x ++ b ++ y)
 in-segments x [] y h = absurd (h refl)
 in-segments x (r ∷ b) y h = in-segments-cons x r b y
@@ -58,6 +59,7 @@ of-prefixes (r ∷ q) {b} (List·Memᴰ·tail d) =
 abbrev pub Within : Sequence → Sequence → Type 0
 Within b q = (b ≢ []) × ((x : Sequence) × (y : Sequence) × (q ≡ x ++ b ++ y))
 
+-- a segment stands within its sequence
 pub of-segments : (q : Sequence) {b : Sequence} → b ∈ segments q → Within b q
 of-segments [] d = elim d [ ]
 of-segments (r ∷ q) {b} d = go (List·Memᴰ·append-cases (prefixes (r ∷ q)) d) (of-segments q)
@@ -73,6 +75,7 @@ module _ (marked : Sequence → Bool) where
   pub pruned-segment : (q : Sequence) → pruned marked q ≡ true → (b : Sequence) × (marked b ≡ true) × Within b q
   pruned-segment q h = let w = any-true marked (segments q) h in (w .0, w .2, of-segments q (w .1))
 
+  -- a sequence with a marked segment is pruned
   pub segment-pruned : (x b y : Sequence) → b ≢ [] → marked b ≡ true → pruned marked (x ++ b ++ y) ≡ true
   segment-pruned x b y h k = true-any marked (in-segments x b y h) k
 

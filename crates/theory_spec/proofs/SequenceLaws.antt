@@ -132,6 +132,7 @@ in-sequences m (suc n) q h k = go (passes? (leb (length q) n)) (in-sequences m n
         Memᴰ·append-right (sequences m n) (let l = leb-false (length q) n e in let j : length q ≡ suc n = omega arith in
         subst (λ i. q ∈ level m i) j (in-level m q k))
 
+-- the sequences of at most n of m rules are exactly those of at most n numbers from 1 to m
 pub sequences-iff : (m n : ℕ) (q : Sequence) → (q ∈ sequences m n) ↔ ((length q ≤ n) × Numbered m q)
 sequences-iff m n q = (of-sequences m n, λ h. in-sequences m n q (h .0) (h .1))
 
