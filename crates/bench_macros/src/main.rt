@@ -6,6 +6,7 @@ use composition::extended;
 use libc::STDIN_FILENO;
 use libc::STDOUT_FILENO;
 use macros_spec::Vectors;
+use model_spec::PLACE_COUNT;
 use model_spec::RuleSet;
 use std::num::wrapping_add_u64;
 ghost use Prim.Native.Nat.{_<_};
@@ -23,7 +24,7 @@ fn wide(entry: u8) -> u64 {
 }
 
 // The totals with the entries of one vector.
-fn with_entries(totals: Totals, entries: [u8; 16]) -> Totals {
+fn with_entries(totals: Totals, entries: [u8; PLACE_COUNT]) -> Totals {
     let mut sum = totals.sum;
     let mut sums = totals.sums;
     for i in 0..16usize {

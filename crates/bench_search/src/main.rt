@@ -5,8 +5,12 @@
 // the same search in Rust.
 use libc::STDIN_FILENO;
 use libc::STDOUT_FILENO;
+use model_spec::MAX_RULES;
+use model_spec::MOVE_LIMIT;
+use model_spec::PLACE_COUNT;
 use model_spec::RuleSet;
 use search_spec::Answer;
+use search_spec::NO_MOVE;
 use tables::sequence_count;
 ghost use Prim.Native.Nat.{_≤_};
 ghost use lib.ListN.{length};
@@ -106,7 +110,7 @@ fn leading_bounds(text: &[u8]) -> Bounds
 fn entries_of(count: u8, reach: usize) -> usize
     ensures { λ r. ⌜ r ≤ 30784 ⌝ }
 {
-    if 31 < count {
+    if MAX_RULES < count {
         return 0;
     }
     sequence_count(count, reach)
@@ -132,7 +136,7 @@ fn print_move(number: u8) {
 // Prints the moves of a plan buffer, up to the first byte that is none.
 fn print_moves(plan: &[u8]) {
     for i in 0..plan.len() {
-        if plan[i] == 255 {
+        if plan[i] == NO_MOVE {
             return;
         }
         print_move(plan[i]);
@@ -142,7 +146,7 @@ fn print_moves(plan: &[u8]) {
 // Builds the table of a rule set and searches with it.
 fn run(set: RuleSet, bounds: Bounds, start: &[u8], goal: &[u8]) {
     let mut space = [0u8; 61568];
-    let mut plan = [0u8; 32];
+    let mut plan = [0u8; MOVE_LIMIT];
     let entries = entries_of(set.count, bounds.reach);
     let table = &mut space[0..2 * entries];
     print(
@@ -166,8 +170,8 @@ fn run(set: RuleSet, bounds: Bounds, start: &[u8], goal: &[u8]) {
 
 // Reads the three lines and the file.
 fn read(input: &[u8]) {
-    let mut start = [0u8; 16];
-    let mut goal = [0u8; 16];
+    let mut start = [0u8; PLACE_COUNT];
+    let mut goal = [0u8; PLACE_COUNT];
     let bounds = leading_bounds(input);
     let after_bounds = bounds.size;
     let lines = &input[after_bounds..];

@@ -3,6 +3,7 @@
 // program prints the outcome alone. `bench/run` times it beside the plain comparison of all macros in Rust.
 use libc::STDIN_FILENO;
 use libc::STDOUT_FILENO;
+use model_spec::MAX_RULES;
 use model_spec::RuleSet;
 use std::num::wrapping_add_u64;
 use tables::KEPT;
@@ -50,7 +51,7 @@ fn leading_number(text: &[u8]) -> Number
 fn entries_of(count: u8) -> usize
     ensures { λ r. ⌜ r ≤ 30784 ⌝ }
 {
-    if 31 < count {
+    if MAX_RULES < count {
         return 0;
     }
     sequence_count(count, 3)

@@ -8,7 +8,7 @@ use native.Mathlib.Numerals.{add-one}
 use native.Mathlib.Omega.{arith}
 use lib.ListN.{length, getD, set, take, drop, length-map, length-drop, drop-of-length-le, List·getD-map}
 use lib.Seq.{take-all, take-length, drop-cons, paste, paste-suc}
-use Rattle.theory_spec.specs.Lists.{foldOver}
+use Rattle.theory_spec.specs.how.Folds.{foldOver}
 use Rattle.bytes.specs.Bytes.{indexOf, slice}
 use Rattle.cases_laws.specs.how.Texts.{lineFed, behind, largest, withDigit, numberOf}
 

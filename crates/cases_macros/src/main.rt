@@ -13,6 +13,7 @@ use libc::STDIN_FILENO;
 use libc::STDOUT_FILENO;
 use macros_spec::Macro;
 use macros_spec::Vectors;
+use model_spec::FIRST_VARIABLE;
 use model_spec::RuleSet;
 use moves::cost_of;
 use moves::rule_at;
@@ -92,7 +93,7 @@ fn blank_from(place: u8, found: Macro) -> bool {
 
 // An entry, in the notation of a rule file.
 fn print_entry(entry: u8) {
-    if entry < 16 {
+    if entry < FIRST_VARIABLE {
         print_byte(entry);
         return;
     }

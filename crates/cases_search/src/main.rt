@@ -45,6 +45,7 @@ use libc::STDIN_FILENO;
 use libc::STDOUT_FILENO;
 use model_spec::RuleSet;
 use search_spec::Answer;
+use search_spec::NO_MOVE;
 use search_spec::Tally;
 use tables::KEPT;
 use tables::entry_at;
@@ -183,7 +184,7 @@ fn print_moves(plan: &[u8]) {
 // Whether a part of the plan buffer is 255 throughout.
 fn blank(plan: &[u8]) -> bool {
     for i in 0..plan.len() {
-        if plan[i] != 255 {
+        if plan[i] != NO_MOVE {
             return false;
         }
     }

@@ -40,7 +40,7 @@ fn value_in(entries: [u8; PLACE_COUNT], entry: u8) -> u8
     if entry < FIRST_VARIABLE {
         return entry;
     }
-    let place = (entry % FIRST_VARIABLE) as usize;
+    let place = (entry % MAX_POSITIONS) as usize;
     entries[place]
 }
 

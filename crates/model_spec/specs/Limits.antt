@@ -5,7 +5,7 @@ use Prim.Native.Nat.{ℕ}
 abbrev pub maxPositions : ℕ
 maxPositions = 16
 
--- a state, a condition and an effect have a place for each position that there can be
+-- states, conditions, effects and sizes have a place for each position that there can be
 abbrev pub placeCount : ℕ
 placeCount = 16
 

@@ -24,7 +24,7 @@ isConstant e = ltb e firstVariable
 
 -- what an entry stands for in a state: the constant, or what the state holds at the variable's position
 unfoldable pub valueOf : ℕ → State → ℕ
-valueOf e s = cond (isConstant e) e (getD s (e % firstVariable) 0)
+valueOf e s = cond (isConstant e) e (getD s (e % placeCount) 0)
 
 -- what a list of entries stands for in a state
 unfoldable pub valuesOf : List ℕ → State → List ℕ

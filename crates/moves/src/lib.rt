@@ -1,5 +1,6 @@
 // A sequence given as moves, the numbers of rules: whether each is one, the rule of a number, and the sequence's cost.
 use model_spec::MAX_RULES;
+use model_spec::RULE_PLACES;
 use model_spec::Rule;
 use model_spec::RuleSet;
 ghost use mathlib.Core.Path.{_≡_};
@@ -30,6 +31,9 @@ pub fn has_unknown_move(count: u8, moves: &[u8]) -> bool
     false
 }
 
+// The place of the last rule that a set can have.
+const LAST_PLACE: usize = RULE_PLACES - 1;
+
 // The place of a number's rule among the 31 of a set: the first for 0, the last for a number above 31.
 fn place_of(number: u8) -> usize
     ensures { λ r. ⌜ r ≡ min number maxRules - 1 ⌝ }
@@ -38,7 +42,7 @@ fn place_of(number: u8) -> usize
         return 0;
     }
     if MAX_RULES < number {
-        return 30;
+        return LAST_PLACE;
     }
     (number - 1) as usize
 }

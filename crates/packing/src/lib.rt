@@ -2,7 +2,8 @@
 use search_spec::Answer;
 ghost use mathlib.Core.Path.{_≡_};
 ghost use Prim.Native.Nat.{_%_};
-ghost use Rattle.planner_spec.specs.PackedLength.{packedLength, lengthLimit};
+ghost use Rattle.planner_spec.specs.PackedLength.{packedLength};
+ghost use Rattle.planner_spec.specs.how.LengthLimit.{lengthLimit};
 ghost use Rattle.planner_spec.specs.Packed.{packed};
 
 // One more than the longest length that has room above the low byte.

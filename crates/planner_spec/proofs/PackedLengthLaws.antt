@@ -3,7 +3,8 @@
 use mathlib.Core.Path.{_≡_, ap, _∙_}
 use Prim.Native.Nat.{ℕ, _/_, _%_, _<_}
 use native.Mathlib.Omega.{arith}
-use Rattle.planner_spec.specs.PackedLength.{packedLength, lengthLimit}
+use Rattle.planner_spec.specs.PackedLength.{packedLength}
+use Rattle.planner_spec.specs.how.LengthLimit.{lengthLimit}
 
 module _ (outcome size : ℕ) (byte : outcome < 256) where
   pub packed-low : packedLength outcome size % 256 ≡ outcome

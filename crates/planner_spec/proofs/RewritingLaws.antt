@@ -19,7 +19,8 @@ use Rattle.files_spec.proofs.AgainLaws.{file-again}
 use Rattle.files_spec.proofs.RefusedLaws.{reading-other, reading-bound, written-refused}
 use Rattle.files_spec.proofs.LengthLaws.{render-bound}
 use Rattle.files_spec.proofs.ReadTextLaws.{read-as}
-use Rattle.planner_spec.specs.PackedLength.{packedLength, lengthLimit}
+use Rattle.planner_spec.specs.PackedLength.{packedLength}
+use Rattle.planner_spec.specs.how.LengthLimit.{lengthLimit}
 use Rattle.planner_spec.specs.Rewriting.{rewritten, rewrittenBuffer, packedRewritten, RewriteMeaning}
 use Rattle.planner_spec.proofs.OfTextLaws.{of-read, of-refused, Own, text-judged}
 use Rattle.planner_spec.proofs.PackedLengthLaws.{packs, packs-outcome, packs-length}

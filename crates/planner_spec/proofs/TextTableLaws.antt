@@ -17,7 +17,8 @@ use Rattle.tables_spec.specs.Answers.{sizeCauses, tableSize, tableCauses, build
 use Rattle.tables_spec.specs.Answers.{checkCauses, checkOutcome}
 use Rattle.tables_spec.proofs.AnswerLaws.{built-whole, built-checks, build-meaning, check-meaning}
 use Rattle.tables_spec.proofs.SizeLaws.{size-meaning, size-builds-iff}
-use Rattle.planner_spec.specs.PackedLength.{packedLength, lengthLimit}
+use Rattle.planner_spec.specs.PackedLength.{packedLength}
+use Rattle.planner_spec.specs.how.LengthLimit.{lengthLimit}
 use Rattle.planner_spec.specs.TextTables.{textTableSize, packedTableSize, textBuildOutcome, textBuiltBuffer}
 use Rattle.planner_spec.specs.TextTables.{textCheckOutcome, TextSizeMeaning, TextBuildMeaning, TextCheckMeaning}
 use Rattle.planner_spec.proofs.OfTextLaws.{of-read, of-refused, Own, own-refusal, not-7, text-judged}

@@ -5,3 +5,4 @@ pub mod TextSearch
 pub mod Rewriting
 pub mod TextTables
 pub mod TextMacro
+pub mod how

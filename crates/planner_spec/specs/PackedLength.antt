@@ -4,7 +4,3 @@ use Prim.Native.Nat.{ℕ, _+_, _*_}
 -- the outcome in the low byte, the length above it
 unfoldable pub packedLength : ℕ → ℕ → ℕ
 packedLength outcome size = outcome + 256 * size
-
--- the lengths below this have room above the low byte of 64 bits
-abbrev pub lengthLimit : ℕ
-lengthLimit = 72057594037927936

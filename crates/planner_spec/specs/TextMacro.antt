@@ -27,12 +27,12 @@ macroBytes m = m .condition ++ (m .effect ++ entryBytes (m .cost))
 abbrev pub macroSize : ℕ
 macroSize = 34
 
--- the macro that stands at the front of a buffer: the cost is in the bytes of entry 16, those behind the two vectors
+-- the macro that stands at the front of a buffer: the cost is in the two bytes behind the vectors
 unfoldable pub macroOf : List ℕ → Macro
 macroOf buffer = record {
   condition = take placeCount buffer;
   effect = take placeCount (drop placeCount buffer);
-  cost = entryAt buffer 16;
+  cost = entryAt buffer placeCount;
 }
 
 -- ── What the call gives and leaves ───────────────────────────────────────────────────────────────

@@ -13,7 +13,8 @@ use lib.Dec.{leb, eqb}
 use lib.ListN.{length, getD, take, List·getD-map}
 use lib.Seq.{take-all}
 use borrow.Author.Tests.{le-leb, ne-eqb}
-use Rattle.theory_spec.specs.Lists.{onlyIf, foldOver, padded}
+use Rattle.theory_spec.specs.Lists.{onlyIf, padded}
+use Rattle.theory_spec.specs.how.Folds.{foldOver}
 use Rattle.theory_spec.specs.Sequences.{Sequence, run, costOf, Numbered}
 use Rattle.theory_spec.specs.how.Indices.{indexOf}
 use Rattle.theory_spec.specs.Plans.{endsIn, reaches}

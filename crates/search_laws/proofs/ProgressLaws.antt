@@ -12,7 +12,7 @@ use native.Mathlib.Omega.{arith}
 use lib.Dec.{ltb}
 use lib.ListN.{length, take, drop}
 use borrow.Author.Tests.{ltb-true, ltb-false, lt-ltb, le-ltb}
-use Rattle.theory_spec.specs.Lists.{foldOver}
+use Rattle.theory_spec.specs.how.Folds.{foldOver}
 use Rattle.theory_spec.specs.Sequences.{Sequence, costOf}
 use Rattle.theory_spec.specs.how.Recursion.{better, improved, bestAfter, best, leastCost}
 use Rattle.theory_spec.proofs.FloorLaws.{least-min}

@@ -13,7 +13,8 @@ use lib.Dec.{leb, ltb, eqb}
 use lib.ListN.{length, getD, take, replicate, length-append}
 use lib.Seq.{take-at}
 use borrow.Author.Tests.{leb-true, le-ltb, ltb-false}
-use Rattle.theory_spec.specs.Lists.{foldOver, numbersFrom, onlyIf, padded}
+use Rattle.theory_spec.specs.Lists.{numbersFrom, onlyIf, padded}
+use Rattle.theory_spec.specs.how.Folds.{foldOver}
 use Rattle.theory_spec.specs.Sequences.{Sequence, costOf}
 use Rattle.theory_spec.specs.how.Indices.{indexOf}
 use Rattle.theory_spec.specs.how.Recursion.{last, enterWith}

@@ -8,7 +8,7 @@ ghost use Prim.Native.Nat.{min};
 ghost use lib.Dec.{leb, eqb};
 ghost use lib.ListN.{take};
 ghost use Rattle.theory_spec.specs.Lists.{padded};
-ghost use Rattle.model_spec.specs.Limits.{maxPositions, placeCount};
+ghost use Rattle.model_spec.specs.Limits.{placeCount};
 ghost use Rattle.model_spec.specs.States.{successor};
 ghost use Rattle.search_laws.specs.how.Visits.{meetsWithin, laidOver};
 
@@ -28,7 +28,7 @@ pub fn start_state(start: &[u8]) -> [u8; PLACE_COUNT]
 
 // Whether a state meets a condition at the positions: as `states::runs`, but no place beyond them is read.
 fn runs_within(positions: usize, condition: &[u8; PLACE_COUNT], state: &[u8; PLACE_COUNT]) -> bool
-    ensures { λ r. ⌜ r ≡ meetsWithin (min positions maxPositions) (now (condition .entry)) (now (state .entry)) ⌝ }
+    ensures { λ r. ⌜ r ≡ meetsWithin (min positions placeCount) (now (condition .entry)) (now (state .entry)) ⌝ }
 {
     let entries: &[u8] = condition;
     let held: &[u8] = state;
@@ -55,7 +55,7 @@ pub fn goes_on(
     ensures { λ r. ⌜
         r
         ≡ ((leb total «max_cost» && eqb block 0)
-        && meetsWithin (min positions maxPositions) (now (condition .entry)) (now (state .entry))) ⌝ }
+        && meetsWithin (min positions placeCount) (now (condition .entry)) (now (state .entry))) ⌝ }
 {
     if block != 0 {
         return false;
@@ -76,7 +76,7 @@ pub fn put_after(
 )
     ensures { λ _. ⌜
         (let after = successor (now (effect .entry)) (now (state .entry)) in
-        now (next .exit) ≡ laidOver (min positions maxPositions) after (now (next .entry))) ⌝ }
+        now (next .exit) ≡ laidOver (min positions placeCount) after (now (next .entry))) ⌝ }
 {
     let entries: &[u8] = effect;
     let end = smaller(positions, PLACE_COUNT);

@@ -1,5 +1,6 @@
 // Rules on states: what an entry stands for, whether a rule runs, where it leads.
 use model_spec::FIRST_VARIABLE;
+use model_spec::MAX_POSITIONS;
 use model_spec::PLACE_COUNT;
 ghost use mathlib.Core.Path.{_≡_};
 ghost use Rattle.theory_spec.specs.Lists.{same};
@@ -12,7 +13,7 @@ pub fn value(entry: u8, state: &[u8; PLACE_COUNT]) -> u8
     if entry < FIRST_VARIABLE {
         return entry;
     }
-    let place = (entry % FIRST_VARIABLE) as usize;
+    let place = (entry % MAX_POSITIONS) as usize;
     state[place]
 }
 

@@ -13,7 +13,8 @@ use lib.Dec.{eqb}
 use borrow.Author.Tests.{eqb-true, eqb-false, eq-eqb}
 use native.Mathlib.Omega.{arith}
 use lib.ListN.{length, getD, replicate, length-append, length-replicate}
-use Rattle.theory_spec.specs.Lists.{_∈_, keepIf, keep, any, every, Pairwise, isSome, padded, flat, foldOver}
+use Rattle.theory_spec.specs.Lists.{_∈_, keepIf, keep, any, every, Pairwise, isSome, padded, flat}
+use Rattle.theory_spec.specs.how.Folds.{foldOver}
 use Rattle.theory_spec.specs.Lists.{numbersFrom, same}
 
 -- ── Tests ────────────────────────────────────────────────────────────────────────────────────────

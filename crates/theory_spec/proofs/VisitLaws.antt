@@ -13,7 +13,8 @@ use native.Mathlib.Omega.{arith}
 use lib.Dec.{leb}
 use lib.ListN.{length}
 use borrow.Author.Tests.{not-true, leb-true, leb-false, le-leb}
-use Rattle.theory_spec.specs.Lists.{_∈_, any, keep, flat, foldOver, isSome}
+use Rattle.theory_spec.specs.Lists.{_∈_, any, keep, flat, isSome}
+use Rattle.theory_spec.specs.how.Folds.{foldOver}
 use Rattle.theory_spec.specs.Sequences.{Sequence, andThen, run, costOf, numbers, Numbered, withFirst, depthFirst}
 use Rattle.theory_spec.specs.Pruning.{prefixes, segments, pruned}
 use Rattle.theory_spec.specs.Plans.{allowed, isVisited, visited}

@@ -55,11 +55,6 @@ module _ {A B : Type 0} where
   flat f [] = []
   flat f (x ∷ xs) = f x ++ flat f xs
 
-  -- what the elements of a list make of b, one after the other
-  abbrev pub foldOver : (A → B → B) → B → List A → B
-  foldOver f b [] = b
-  foldOver f b (x ∷ xs) = foldOver f (f x b) xs
-
 -- the n numbers from i on
 abbrev pub numbersFrom : ℕ → ℕ → List ℕ
 numbersFrom i zero = []

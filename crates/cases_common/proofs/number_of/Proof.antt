@@ -6,7 +6,7 @@ use Prim.Native.Nat.{_+_, _-_}
 use native.Mathlib.Omega.{arith}
 use lib.ListN.{length, drop}
 use borrow.Author.Needs.{needs}
-use Rattle.theory_spec.specs.Lists.{foldOver}
+use Rattle.theory_spec.specs.how.Folds.{foldOver}
 use Rattle.cases_laws.specs.how.Texts.{withDigit, numberOf}
 use Rattle.cases_laws.proofs.TextLaws.{number-more, number-end}
 use Rattle.cases_common.proofs.number_of.Statement.{statement}

@@ -4,7 +4,7 @@ use mathlib.Core.List.{List}
 use Prim.Native.Nat.{ℕ, suc, min, _+_, _*_, _/_, _%_}
 use lib.Dec.{eqb, leb}
 use lib.ListN.{take, drop, set}
-use Rattle.theory_spec.specs.Lists.{foldOver}
+use Rattle.theory_spec.specs.how.Folds.{foldOver}
 use Rattle.bytes.specs.Bytes.{indexOf}
 
 -- a byte of a rule file that is written on one line: `/` stands for a line feed

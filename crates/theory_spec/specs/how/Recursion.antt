@@ -6,7 +6,8 @@ use mathlib.Core.List.{List, [], _∷_, _++_}
 use Prim.Native.Nat.{ℕ, zero, suc, _-_, min}
 use lib.Dec.{leb, ltb, eqb}
 use lib.ListN.{length, drop}
-use Rattle.theory_spec.specs.Lists.{any, keep, flat, foldOver, same}
+use Rattle.theory_spec.specs.Lists.{any, keep, flat, same}
+use Rattle.theory_spec.specs.how.Folds.{foldOver}
 use Rattle.theory_spec.specs.Sequences.{Sequence, costOf, numbers}
 
 -- ── The visited sequences ────────────────────────────────────────────────────────────────────────
