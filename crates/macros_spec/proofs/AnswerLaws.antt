@@ -3,6 +3,7 @@
 use mathlib.Core.Path.{_≡_, refl, ap, _∙_}
 use mathlib.Core.Bool.{Bool, true, false, not}
 use mathlib.Core.Option.{Option, some, none}
+use mathlib.Core.List.{[], _∷_}
 use Prim.Native.Nat.{_≤_, _<_}
 use lib.Dec.{ltb}
 use lib.ListN.{length}
@@ -37,24 +38,37 @@ module _ (set : RuleSet) (moves : Sequence) where
   unfolding macroAnswer macroCauses
   answer-judged isValid = rw isValid
 
+  -- the answer by the three tests that are left: too many moves, an unknown one, whether a state admits the sequence
+  abbrev byTests : Bool → Bool → Bool → MacroAnswer
+  byTests long unknown admits =
+      macroWith set moves (firstRefusal ((11, long) ∷ (13, unknown) ∷ (17, not admits) ∷ []))
+
+  abbrev unknownMove : Bool
+  unknownMove = any (λ r. not (within 1 (set .count) r)) moves
+
   pub worked-long : 32 < length moves → worked ≡ record { outcome = 11; result = blankMacro }
-  worked-long h = rw (lt-ltb 32 (length moves) h)
+  worked-long h = ap (λ long. byTests long unknownMove (admitted set moves)) (lt-ltb 32 (length moves) h)
 
   module _ (few : length moves ≤ 32) where
-    pub worked-unknown : any (λ r. not (within 1 (set .count) r)) moves ≡ true
-        → worked ≡ record { outcome = 13; result = blankMacro }
-    worked-unknown e = rw (le-ltb 32 (length moves) few, e)
+    worked-few : worked ≡ byTests false unknownMove (admitted set moves)
+    worked-few = ap (λ long. byTests long unknownMove (admitted set moves)) (le-ltb 32 (length moves) few)
 
-    module _ (formed : WellFormed set) (numbered : any (λ r. not (within 1 (set .count) r)) moves ≡ false) where
-      admits : (o : Option Lines) → composed set moves ≡ o → admitted set moves ≡ isSome o
-      admits o e = admitted-composed set formed moves (no-unknown-iff (set .count) moves .0 numbered) ∙ ap isSome e
+    pub worked-unknown : unknownMove ≡ true → worked ≡ record { outcome = 13; result = blankMacro }
+    worked-unknown e = worked-few ∙ ap (λ unknown. byTests false unknown (admitted set moves)) e
+
+    module _ (formed : WellFormed set) (numbered : unknownMove ≡ false) where
+      worked-known : (o : Option Lines) → composed set moves ≡ o → worked ≡ byTests false false (isSome o)
+      worked-known o e =
+          let admits = admitted-composed set formed moves (no-unknown-iff (set .count) moves .0 numbered) ∙ ap isSome e in
+          worked-few ∙ ap (λ unknown. byTests false unknown (admitted set moves)) numbered ∙ ap (byTests false false) admits
 
       pub worked-denied : composed set moves ≡ none → worked ≡ record { outcome = 17; result = blankMacro }
-      worked-denied e = rw (le-ltb 32 (length moves) few, numbered, admits none e)
+      worked-denied e = worked-known none e
 
       pub worked-given : (m : Lines) → composed set moves ≡ some m
           → worked ≡ record { outcome = 0; result = macroAt (sequenceCost set moves) (some m) }
-      worked-given m e = rw (le-ltb 32 (length moves) few, numbered, admits (some m) e, e)
+      worked-given m e =
+          worked-known (some m) e ∙ ap (λ o. record { outcome = 0; result = macroAt (sequenceCost set moves) o }) e
 
   -- and of any set
   module _ (isValid : valid set ≡ true) where
