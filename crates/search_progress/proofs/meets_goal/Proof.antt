@@ -69,8 +69,9 @@ returns : tie.Need-returns Inv-loop μ-loop
 returns c =
     let wants = c .before .before .before in
     let turn = wants .before .before in
+    let goal = startOf turn .args .goal .now in
     every-stop _ _ _ _ (turn .before .loop .inv .2) (inside turn)
-    (rw (wanted turn, ne-eqb _ _ (wants .if1 .taken), ne-eqb _ _ (c .if2 .taken)))
+    (rw (wanted turn, ne-eqb (getD goal (turn .before .loop .i) 0) 255 (wants .if1 .taken), ne-eqb _ _ (c .if2 .taken)))
 
 add-i : tie.Need-add-i Inv-loop μ-loop
 add-i c = search needs

@@ -12,7 +12,10 @@ lower-requires c κs = search needs
 
 returns : tie.Need-returns
 unfolding notedMoves
-returns c = rw (le-ltb _ _ (c .before .if1 .taken), c .lower .ensures)
+returns c =
+    let made = c .before .before .before in
+    let s = made .before .before .args in
+    rw (le-ltb (s .progress .steps) (s .step-limit) (c .before .if1 .taken), c .lower .ensures)
 
 add-steps : tie.Need-add-steps
 add-steps c = search needs

@@ -14,7 +14,9 @@ returns c =
     (ne-eqb _ _ (c .if1 .taken))))
 
 returns-2 : tie.Need-returns-2
-returns-2 c = rw (lt-leb _ _ (c .if2 .taken))
+returns-2 c =
+    let s = c .before .before .args in
+    rw (lt-leb (s .total) (s .max-cost) (c .if2 .taken))
 
 runs-within-requires : tie.Need-runs-within-requires
 runs-within-requires c κs = search needs
