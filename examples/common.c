@@ -13,9 +13,11 @@
 /* The most bytes of an argument or a path that a message shows. */
 enum { SHOWN_IN_MESSAGE = 200 };
 
-/* What ends a program that does not handle it, and is sent by a person, a terminal or the system's shutdown. */
-static const int ending_signals[] = {SIGHUP, SIGINT, SIGQUIT, SIGTERM};
-enum { ENDING_SIGNALS = sizeof ending_signals / sizeof ending_signals[0] };
+/* The signals that are not held: those that cannot be, those of a fault in the program itself, and those that do not
+ * end it. */
+static const int other_signals[] = {SIGKILL, SIGSEGV, SIGBUS,  SIGFPE, SIGILL,   SIGABRT, SIGTRAP, SIGSYS,
+                                    SIGSTOP, SIGTSTP, SIGTTIN, SIGTTOU, SIGCONT, SIGCHLD, SIGURG,  SIGWINCH};
+enum { OTHER_SIGNALS = sizeof other_signals / sizeof other_signals[0] };
 
 void begin(void)
 {
@@ -31,18 +33,30 @@ int finish(uint8_t outcome)
     return outcome == PLANNER_OK ? STATUS_OK : STATUS_OUTCOME;
 }
 
-/* The bytes of the character at the front of a text, or 0 for one that is not shown: a control character (C0, DEL, C1)
- * or what is no UTF-8. */
+/* Whether a character could end the line or steer a terminal: C0, DEL, C1, a separator of lines or paragraphs, or one
+ * that turns the direction of writing. */
+static bool steers(uint32_t character)
+{
+    return character < 0x20 || (character >= 0x7f && character < 0xa0) || (character >= 0x2028 && character <= 0x202e)
+        || (character >= 0x2066 && character <= 0x2069);
+}
+
+/* The bytes of the character at the front of a text, or 0 for one that is not shown: one that steers, or what is no
+ * UTF-8. */
 static size_t character_size(const char *text)
 {
+    /* the least character of each size, below which its bytes are too long */
+    static const uint32_t least[] = {0, 0, 0x80, 0x800, 0x10000};
     const unsigned char *at = (const unsigned char *)text;
-    if (at[0] < 0x80)
-        return at[0] >= ' ' && at[0] != 0x7f;
-    size_t size = at[0] >= 0xf5 ? 0 : at[0] >= 0xf0 ? 4 : at[0] >= 0xe0 ? 3 : at[0] >= 0xc2 ? 2 : 0;
-    for (size_t next = 1; next < size; next++)
+    size_t size = at[0] < 0x80 ? 1 : at[0] < 0xc0 ? 0 : at[0] < 0xe0 ? 2 : at[0] < 0xf0 ? 3 : at[0] < 0xf8 ? 4 : 0;
+    uint32_t character = size == 1 ? at[0] : at[0] & (0x7fU >> size);
+    for (size_t next = 1; next < size; next++) {
         if ((at[next] & 0xc0) != 0x80)
             return 0;
-    return at[0] == 0xc2 && at[1] < 0xa0 ? 0 : size;
+        character = character << 6 | (at[next] & 0x3f);
+    }
+    bool surrogate = character >= 0xd800 && character <= 0xdfff;
+    return character < least[size] || character > 0x10ffff || surrogate || steers(character) ? 0 : size;
 }
 
 void put_text(FILE *out, const char *text, size_t most)
@@ -146,42 +160,93 @@ bool write_all(int file, const void *bytes, size_t length)
     return true;
 }
 
+/* Whether two descriptions are of one file. */
+static bool same_file(const struct stat *one, const struct stat *other)
+{
+    return one->st_dev == other->st_dev && one->st_ino == other->st_ino;
+}
+
 void keep_apart(const char *written, const char *read)
 {
     struct stat one, other;
-    if (stat(written, &one) == 0 && stat(read, &other) == 0 && one.st_dev == other.st_dev && one.st_ino == other.st_ino)
+    if (stat(written, &one) == 0 && stat(read, &other) == 0 && same_file(&one, &other))
         fail(written, "would be written over a file that is read");
 }
 
-sigset_t hold_signals(void)
+void keep_from_output(const char *written)
 {
-    sigset_t held, before;
-    sigemptyset(&held);
-    for (size_t at = 0; at < ENDING_SIGNALS; at++) {
-        struct sigaction action;
-        if (sigaction(ending_signals[at], NULL, &action) != 0)
-            fail("signals", strerror(errno));
-        if (action.sa_handler != SIG_IGN)
-            sigaddset(&held, ending_signals[at]);
-    }
-    if (sigprocmask(SIG_BLOCK, &held, &before) != 0)
-        fail("signals", strerror(errno));
-    return before;
+    struct stat one, other;
+    if (stat(written, &one) != 0)
+        return;
+    if (fstat(STDOUT_FILENO, &other) == 0 && same_file(&one, &other))
+        fail(written, "is also standard output");
+    if (fstat(STDERR_FILENO, &other) == 0 && same_file(&one, &other))
+        fail(written, "is also standard error");
 }
 
-bool signal_waits(void)
+bool is_at(int file, const char *path)
+{
+    struct stat one, other;
+    return fstat(file, &one) == 0 && stat(path, &other) == 0 && same_file(&one, &other);
+}
+
+bool sync_folder(const char *path)
+{
+    const char *slash = strrchr(path, '/');
+    size_t length = slash == NULL ? 0 : (size_t)(slash - path) + 1;
+    char *folder = allocate(length + 2);
+    memcpy(folder, path, length);
+    memcpy(folder + length, ".", 2);
+    int file = open(folder, O_RDONLY | O_DIRECTORY);
+    free(folder);
+    if (file < 0)
+        return errno == EACCES;
+    bool synced = fsync(file) == 0 || errno == EINVAL;
+    int error = errno;
+    bool closed = close(file) == 0;
+    if (!synced)
+        errno = error;
+    return synced && closed;
+}
+
+/* Whether a signal would end the program, which was not started to ignore it. */
+static bool ends_program(int signal)
+{
+    struct sigaction action;
+    for (size_t at = 0; at < OTHER_SIGNALS; at++)
+        if (other_signals[at] == signal)
+            return false;
+    return sigaction(signal, NULL, &action) == 0 && action.sa_handler != SIG_IGN;
+}
+
+struct signals hold_signals(void)
+{
+    struct signals signals;
+    sigemptyset(&signals.held);
+    for (int signal = 1; signal <= SIGRTMAX; signal++)
+        if (ends_program(signal))
+            sigaddset(&signals.held, signal);
+    if (sigprocmask(SIG_BLOCK, &signals.held, &signals.before) != 0)
+        fail("signals", strerror(errno));
+    for (int signal = 1; signal <= SIGRTMAX; signal++)
+        if (sigismember(&signals.before, signal) == 1)
+            sigdelset(&signals.held, signal);
+    return signals;
+}
+
+bool signal_waits(const struct signals *signals)
 {
     sigset_t waiting;
-    bool found = false;
     if (sigpending(&waiting) != 0)
         return false;
-    for (size_t at = 0; at < ENDING_SIGNALS; at++)
-        found = found || sigismember(&waiting, ending_signals[at]) == 1;
-    return found;
+    for (int signal = 1; signal <= SIGRTMAX; signal++)
+        if (sigismember(&signals->held, signal) == 1 && sigismember(&waiting, signal) == 1)
+            return true;
+    return false;
 }
 
-void release_signals(const sigset_t *before)
+void release_signals(const struct signals *signals)
 {
-    if (sigprocmask(SIG_SETMASK, before, NULL) != 0)
+    if (sigprocmask(SIG_SETMASK, &signals->before, NULL) != 0)
         fail("signals", strerror(errno));
 }

@@ -26,7 +26,7 @@ void begin(void);
 int finish(uint8_t outcome);
 
 /* A text that someone else wrote: at most this many bytes of it, and '..' if it is longer. A character that could end
- * the line or steer a terminal, and what is no UTF-8, is shown as a question mark. */
+ * the line, steer a terminal or turn the direction of writing, and what is no UTF-8, is shown as a question mark. */
 void put_text(FILE *out, const char *text, size_t most);
 
 /* A message on standard error. */
@@ -58,13 +58,30 @@ bool write_all(int file, const void *bytes, size_t length);
 /* Ends the program if a file that is to be written is one that is read. */
 void keep_apart(const char *written, const char *read);
 
-/* Lets the signals that would end the program wait, save those that it was started to ignore; gives the mask before. */
-sigset_t hold_signals(void);
+/* Ends the program if a file that is to be written is standard output or standard error. */
+void keep_from_output(const char *written);
 
-/* Whether one of them came. */
-bool signal_waits(void);
+/* Whether an open file is still the one of this name. */
+bool is_at(int file, const char *path);
+
+/* Waits until the folder of a file is on the disk, so that its name is; or says why not in errno. A folder that may not
+ * be read, or is of a kind that is not synced, is left to the system. */
+bool sync_folder(const char *path);
+
+/* The signals that wait because of hold_signals, and the mask before it. */
+struct signals {
+    sigset_t held;
+    sigset_t before;
+};
+
+/* Lets the signals that would end the program wait, save those that it was started to ignore. What SIGKILL and a power
+ * cut stop stays as it is then. */
+struct signals hold_signals(void);
+
+/* Whether one of them came; one that waited before does not count. */
+bool signal_waits(const struct signals *signals);
 
 /* Lets them come again: one that waited ends the program, with its status. */
-void release_signals(const sigset_t *before);
+void release_signals(const struct signals *signals);
 
 #endif

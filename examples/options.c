@@ -42,7 +42,8 @@ static bool is_option(const char *argument)
     return argument[0] == '-' && argument[1] != '\0' && !(argument[1] >= '0' && argument[1] <= '9');
 }
 
-/* Takes the value of an option, its own or the next argument; says whether it is the next. */
+/* Takes the value of an option, its own or the next argument, which is none if it begins with two dashes; says whether
+ * it is the next. */
 static bool take_option(struct option *options, const char *argument, const char *next)
 {
     size_t length = strcspn(argument, "=");
@@ -53,7 +54,7 @@ static bool take_option(struct option *options, const char *argument, const char
         fail_with_hint(argument, "no such option");
     bool joined = argument[length] == '=';
     option->value = joined ? argument + length + 1 : next;
-    if (option->value == NULL)
+    if (option->value == NULL || (!joined && strncmp(next, "--", 2) == 0))
         fail_with_hint(option->name, "needs a value");
     return !joined;
 }

@@ -1,5 +1,5 @@
 /* The command line: operands, and options that stand anywhere among them, '--name VALUE' or '--name=VALUE', up to
- * '--'. */
+ * '--'. A value that begins with two dashes is written in the second form. */
 #ifndef OPTIONS_H
 #define OPTIONS_H
 

@@ -40,7 +40,7 @@ static void show_help(void)
            "  TABLE       its pruning table, a file; or the word build, to build it (a file of that name: ./build).\n"
            "              A table has at most %d bytes, and a longer file is not read to its end\n"
            "  START       a value for each position, a comma list\n"
-           "  GOAL        likewise; any or * for any value\n"
+           "  GOAL        likewise; any, * or %d for any value\n"
            "  --reach N   the reach of the table, 1 to %d; default %d\n"
            "  --moves N   the most moves, 0 to %d; default %d\n"
            "  --cost N    the most cost, 0 to %d; default %d\n"
@@ -48,8 +48,8 @@ static void show_help(void)
            "  --log FILE  append the answer and the rule file to FILE, under a lock, whole or not at all\n"
            "  --help      show this and do nothing else\n"
            "  --version   show the version and do nothing else\n",
-           PLANNER_MAX_FILE, MOST_OF_RULES, PLANNER_MAX_TABLE, PLANNER_MAX_REACH, DEFAULT_REACH, PLANNER_MAX_MOVES,
-           DEFAULT_MOVES, UINT16_MAX, DEFAULT_COST, UINT32_MAX, DEFAULT_STEPS);
+           PLANNER_MAX_FILE, MOST_OF_RULES, PLANNER_MAX_TABLE, PLANNER_ANY, PLANNER_MAX_REACH, DEFAULT_REACH,
+           PLANNER_MAX_MOVES, DEFAULT_MOVES, UINT16_MAX, DEFAULT_COST, UINT32_MAX, DEFAULT_STEPS);
     printf("Options may stand anywhere and be written --moves=12; -- ends them. Numbers are in base ten.\n"
            "Of an option given twice the last counts.\n"
            "Exit status: 0 a plan, 1 another outcome, 2 a bad argument or a file that could not be read or written.\n");
@@ -115,18 +115,20 @@ static struct request read_request(int count, char **arguments)
     return request;
 }
 
-/* Reads the files of a request; a table to build gives the outcome of that. */
-static uint8_t read_files(struct request *request)
+/* Reads the files of a request, and then looks whether its log can be written. */
+static void read_files(struct request *request)
 {
-    if (request->log != NULL)
+    if (request->log != NULL) {
+        keep_from_output(request->log);
         keep_apart(request->log, request->rules);
+    }
     if (request->log != NULL && !builds_table(request))
         keep_apart(request->log, request->table);
     request->query.rules = read_file(request->rules, MOST_OF_RULES);
-    if (builds_table(request))
-        return build_table(&request->query);
-    request->query.table = read_file(request->table, MOST_OF_TABLE);
-    return PLANNER_OK;
+    if (!builds_table(request))
+        request->query.table = read_file(request->table, MOST_OF_TABLE);
+    if (request->log != NULL)
+        check_log(request->log);
 }
 
 /* The planner's answer to a query. */
@@ -184,10 +186,11 @@ static void put_time(FILE *out)
     struct tm *utc = now == (time_t)-1 ? NULL : gmtime(&now);
     if (utc == NULL || strftime(text, sizeof text, "%Y-%m-%dT%H:%M:%SZ", utc) == 0)
         text[0] = '\0';
-    fprintf(out, "time=%s\n", text);
+    fprintf(out, LOG_BEGIN "%s\n", text);
 }
 
-/* An entry of the log: lines, then as much of the rule file as was read, which is as long as the last line says. */
+/* An entry of the log: lines, then as much of the rule file as was read, which is as long as the last of them says, and
+ * a line feed. */
 static void put_entry(FILE *out, const struct request *request, const struct result *result)
 {
     const struct query *query = &request->query;
@@ -206,7 +209,7 @@ static void put_entry(FILE *out, const struct request *request, const struct res
     put_list(out, "plan", result->plan, planner_length(answer));
     fprintf(out, "rule_file=%s\nrule_bytes=%zu\n", query->rules.cut ? "cut" : "whole", query->rules.length);
     fwrite(query->rules.at, 1, query->rules.length, out);
-    fputs(LOG_END, out);
+    fputc('\n', out);
 }
 
 /* Appends an answer to the log, or says why it could not be done. */
@@ -239,8 +242,9 @@ int main(int count, char **arguments)
 {
     begin();
     struct request request = read_request(count, arguments);
+    read_files(&request);
     /* a table that cannot be built has the outcome that a search would have, with no cost, length or steps */
-    struct result result = {.answer = read_files(&request)};
+    struct result result = {.answer = builds_table(&request) ? build_table(&request.query) : PLANNER_OK};
     if (result.answer == PLANNER_OK)
         result = search(&request.query);
     bool logged = request.log == NULL || log_result(&request, &result);

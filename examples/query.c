@@ -26,7 +26,7 @@ static const char *general_words(uint8_t outcome, const char *success)
         [PLANNER_BAD_FORM] = "rule file: a byte does not fit, the file ends early, or bytes are left over",
         [PLANNER_OUTSIDE_LIMIT] = "rule file: a number outside its limit",
         [PLANNER_MISPLACED_VARIABLE] = "rule file: a variable out of place",
-        [PLANNER_DUPLICATE_RULES] = "rule file: two rules with equal lines",
+        [PLANNER_DUPLICATE_RULES] = "rule file: two rules with equal if and then lines, whatever their costs",
         [PLANNER_BAD_REACH] = "the reach is not 1 to " DIGITS(PLANNER_MAX_REACH),
         [PLANNER_BAD_TABLE_LENGTH] = "the table has not the length for these rules and this reach",
         [PLANNER_INVALID_RULE_SET] = "the rule set is not valid",
@@ -107,7 +107,7 @@ void put_words(FILE *out, uint8_t outcome, const char *success, const struct que
     case PLANNER_OUTSIDE_LIMIT:
     case PLANNER_MISPLACED_VARIABLE:
     case PLANNER_DUPLICATE_RULES:
-        if (query->rules.cut)
+        if (query->rules.length > PLANNER_MAX_FILE)
             fprintf(out, "; the file has more than %d bytes, the most of a rule file", PLANNER_MAX_FILE);
         break;
     case PLANNER_BAD_REACH:

@@ -18,15 +18,18 @@ static void show_help(void)
 {
     printf("usage: table build RULES REACH TABLE\n"
            "       table check RULES REACH TABLE\n"
-           "build writes the pruning table of a rule file to the file TABLE, which stays as it was unless all\n"
-           "went well; check says whether the table in the file TABLE is accepted.\n"
+           "build writes the pruning table of a rule file to the file TABLE; check says whether the table in the\n"
+           "file TABLE is accepted.\n"
            "  RULES      a rule file, of at most %d bytes; of a longer file the first %d are judged\n"
            "  REACH      1 to %d, in base ten\n"
            "  TABLE      a file; a table has at most %d bytes, and a longer file is not read to its end\n"
            "  --help     show this and do nothing else\n"
            "  --version  show the version and do nothing else\n",
            PLANNER_MAX_FILE, MOST_OF_RULES, PLANNER_MAX_REACH, PLANNER_MAX_TABLE);
-    printf("A new table is written beside TABLE under a name of its own, then takes its place and keeps its mode.\n"
+    printf("A new table is written beside TABLE under a name of its own, TABLE.XXXXXX, then takes its place by a\n"
+           "rename and keeps its mode. What fails before that, or a signal, leaves TABLE as it was and nothing\n"
+           "beside it, save SIGKILL or a power cut: these may leave TABLE.XXXXXX. What fails later, standard output\n"
+           "or the sync of the folder, does not undo it.\n"
            "build refuses a symbolic link: the table would replace the link, and not the file behind it.\n"
            "An operand that begins with a dash comes after --.\n"
            "Exit status: 0 built or accepted, 1 another outcome, 2 a bad argument or a file that could not be\n"
@@ -53,18 +56,32 @@ static char *name_beside(const char *path)
     return name;
 }
 
-/* Gives a new file the mode of the one that it replaces, and its owner where the system lets it; for NULL the mode that
- * any new file has. */
+/* Gives a new file the owner and the group of the one that it replaces, where the system lets it; says in *group
+ * whether the group is the same now. */
+static bool set_owner(int file, const struct stat *old, bool *group)
+{
+    *group = true;
+    if (fchown(file, old->st_uid, old->st_gid) == 0)
+        return true;
+    if (errno == EPERM && fchown(file, (uid_t)-1, old->st_gid) == 0)
+        return true;
+    *group = false;
+    return errno == EPERM;
+}
+
+/* Gives a new file the mode of the one that it replaces, and its owner and group where the system lets it: another
+ * group gets no right of the former one's. For NULL the mode that any new file has. */
 static bool set_mode(int file, const struct stat *old)
 {
+    bool group;
     if (old == NULL) {
         mode_t mask = umask(0);
         umask(mask);
         return fchmod(file, 0666 & ~mask) == 0;
     }
-    if (fchown(file, old->st_uid, old->st_gid) != 0 && errno != EPERM)
+    if (!set_owner(file, old, &group))
         return false;
-    return fchmod(file, old->st_mode & 0777) == 0;
+    return fchmod(file, old->st_mode & (group ? 0777 : 0707)) == 0;
 }
 
 /* Writes a new file and closes it; says whether all of it is on the disk. */
@@ -79,12 +96,12 @@ static bool write_and_close(int file, struct bytes bytes, const struct stat *old
 }
 
 /* Removes a file that came to nothing, and ends the program: with the signal that waits, or with a message. */
-static _Noreturn void abandon(const char *name, const char *path, const sigset_t *before)
+static _Noreturn void abandon(const char *name, const char *path, const struct signals *signals)
 {
     int error = errno;
     if (remove(name) != 0)
         complain(name, "could not be removed");
-    release_signals(before);
+    release_signals(signals);
     fail(path, strerror(error));
 }
 
@@ -99,14 +116,17 @@ static void replace_file(const char *path, struct bytes bytes)
     if (exists && !S_ISREG(old.st_mode))
         fail(path, "not a regular file");
     char *name = name_beside(path);
-    sigset_t before = hold_signals();
+    struct signals signals = hold_signals();
     int file = mkstemp(name);
     if (file < 0)
         fail(path, strerror(errno));
-    if (!write_and_close(file, bytes, exists ? &old : NULL) || signal_waits() || rename(name, path) != 0)
-        abandon(name, path, &before);
-    release_signals(&before);
+    if (!write_and_close(file, bytes, exists ? &old : NULL) || signal_waits(&signals) || rename(name, path) != 0)
+        abandon(name, path, &signals);
+    bool synced = sync_folder(path);
+    release_signals(&signals);
     free(name);
+    if (!synced)
+        fail(path, "the table is in place, but its folder could not be synced");
 }
 
 /* Builds the table, and writes it unless it is refused. */
