@@ -29,8 +29,11 @@ extern "C" {
 /* What a call needs of the stack, in bytes. */
 #define PLANNER_STACK 262144
 
-/* The most positions of a rule file. */
+/* The most positions of a rule file, the largest size of a position, the most rules, and the most that a rule costs. */
 #define PLANNER_MAX_POSITIONS 16
+#define PLANNER_MAX_SIZE 16
+#define PLANNER_MAX_RULES 31
+#define PLANNER_MAX_RULE_COST 255
 
 /* The longest rule file, in bytes. Of a longer text the first PLANNER_MAX_FILE + 1 bytes have its outcome. */
 #define PLANNER_MAX_FILE 4292
@@ -38,19 +41,20 @@ extern "C" {
 /* The largest reach. */
 #define PLANNER_MAX_REACH 3
 
-/* The longest table, in bytes: 31 rules, reach 3. */
+/* The longest table, in bytes: PLANNER_MAX_RULES rules, PLANNER_MAX_REACH. */
 #define PLANNER_MAX_TABLE 61568
 
 /* The most moves of a query: a plan buffer of this size is long enough for every query that is not refused. */
 #define PLANNER_MAX_MOVES 32
 
-/* Outcomes. Each call gives the first whose cause holds, in the order given with it. */
+/* Outcomes. Each call gives the first whose cause holds, in the order given with it. '1 to 4' is, within it: 1, 2 and 3
+ * in text order, whichever cause stands first in the file, then 4. */
 enum planner_outcome {
     PLANNER_OK = 0,                  /* not refused; of a search: a plan found */
     PLANNER_BAD_FORM = 1,            /* rule file: a byte does not fit, the file ends early, or bytes are left over */
     PLANNER_OUTSIDE_LIMIT = 2,       /* rule file: a well-formed number outside its limit */
     PLANNER_MISPLACED_VARIABLE = 3,  /* rule file: a variable out of place */
-    PLANNER_DUPLICATE_RULES = 4,     /* rule file: two rules with equal lines */
+    PLANNER_DUPLICATE_RULES = 4,     /* rule file: two rules with equal if and then lines, whatever their costs */
     PLANNER_BAD_REACH = 5,           /* the reach is not 1 to PLANNER_MAX_REACH */
     PLANNER_BAD_TABLE_LENGTH = 6,    /* the table's length is not planner_table_size's */
     PLANNER_INVALID_RULE_SET = 7,    /* no entry gives it: a set that was read is valid */
@@ -70,11 +74,13 @@ enum planner_outcome {
 #define PLANNER_ANY 255
 
 /* An entry of a table: two bytes, low byte first. This one keeps its sequence; another marks it and is its witness's
- * index. */
+ * index. The entries stand in the order of their sequences' indices: 0 is the empty sequence's, and with M rules the
+ * sequence r1,r2,r3 has the index (r1 * M + r2) * M + r3, r1,r2 has r1 * M + r2, r1 has r1. A table of reach L has
+ * 2 * (1 + M + .. + M^L) bytes. */
 #define PLANNER_KEPT 65535
 
 /* The bytes of a macro: condition 16, effect 16, cost 2, low byte first. An entry below 16 is that constant; 16 + k is
- * the variable of position k + 1. */
+ * the variable of position k + 1. Entries past the last position are 0. */
 #define PLANNER_MACRO_SIZE 34
 
 /* Searches for the cheapest plan from the start to the goal.

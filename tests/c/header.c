@@ -122,6 +122,36 @@ static void searches(void)
     expect("planner_search with a short goal", search_e(goal, 1, plan, sizeof plan, 3, 9) == PLANNER_BAD_GOAL);
 }
 
+/* The outcome of a rule file with one rule and one position, of this size and cost; its front says so many rules. */
+static uint8_t read_small(int size, int rule_count, int cost)
+{
+    char text[90];
+    int length = snprintf(text, sizeof text, "positions=1\nsizes=%d\nrules=%d\ncost=%d\nif=x1\nthen=0\n", size,
+                          rule_count, cost);
+    return planner_read((const uint8_t *)text, (size_t)length);
+}
+
+/* The names of the header for the numbers of a rule file: each is read, and the next refused. A file of one rule that
+ * says the most of them ends early. */
+static void numbers_of_files(void)
+{
+    expect("PLANNER_MAX_SIZE", read_small(PLANNER_MAX_SIZE, 1, 1) == PLANNER_OK);
+    expect("above PLANNER_MAX_SIZE", read_small(PLANNER_MAX_SIZE + 1, 1, 1) == PLANNER_OUTSIDE_LIMIT);
+    expect("PLANNER_MAX_RULES", read_small(2, PLANNER_MAX_RULES, 1) == PLANNER_BAD_FORM);
+    expect("above PLANNER_MAX_RULES", read_small(2, PLANNER_MAX_RULES + 1, 1) == PLANNER_OUTSIDE_LIMIT);
+    expect("PLANNER_MAX_RULE_COST", read_small(2, 1, PLANNER_MAX_RULE_COST) == PLANNER_OK);
+    expect("above PLANNER_MAX_RULE_COST", read_small(2, 1, PLANNER_MAX_RULE_COST + 1) == PLANNER_OUTSIDE_LIMIT);
+}
+
+/* Bytes of the table of so many rules for this reach, as the header says: 2 * (1 + M + .. + M^L). */
+static uint64_t table_bytes(uint64_t rule_count, int reach)
+{
+    uint64_t sequences = 1;
+    for (int length = 0; length < reach; length++)
+        sequences = 1 + rule_count * sequences;
+    return 2 * sequences;
+}
+
 /* Writes the longest rule file: 31 rules of cost 255, every entry as long as it can be. Gives its length. */
 static size_t write_longest(char text[PLANNER_MAX_FILE + 2])
 {
@@ -152,6 +182,7 @@ static void limits(void)
     uint64_t size = planner_table_size(longest, length, PLANNER_MAX_REACH);
     expect("PLANNER_MAX_REACH", planner_outcome(size) == PLANNER_OK);
     expect("PLANNER_MAX_TABLE", planner_size(size) == PLANNER_MAX_TABLE);
+    expect("the bytes of a table", table_bytes(PLANNER_MAX_RULES, PLANNER_MAX_REACH) == PLANNER_MAX_TABLE);
     size = planner_table_size(longest, length, PLANNER_MAX_REACH + 1);
     expect("a reach above PLANNER_MAX_REACH", size == PLANNER_BAD_REACH);
     text[length] = 'x';
@@ -180,6 +211,7 @@ int main(void)
     tables();
     macros();
     searches();
+    numbers_of_files();
     limits();
     version();
     return 0;
