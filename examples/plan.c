@@ -45,13 +45,14 @@ static void show_help(void)
            "  --moves N   the most moves, 0 to %d; default %d\n"
            "  --cost N    the most cost, 0 to %d; default %d\n"
            "  --steps N   the step limit: the most sequences to visit, 0 to %" PRIu32 "; default %d\n"
-           "  --log FILE  append the answer and the rule file to FILE, under a lock, whole or not at all\n"
+           "  --log FILE  append the answer and the rule file to FILE, under a lock, whole or not at all; SIGKILL\n"
+           "              or a power cut may leave a part, after which nothing is appended\n"
            "  --help      show this and do nothing else\n"
            "  --version   show the version and do nothing else\n",
            PLANNER_MAX_FILE, MOST_OF_RULES, PLANNER_MAX_TABLE, PLANNER_ANY, PLANNER_MAX_REACH, DEFAULT_REACH,
            PLANNER_MAX_MOVES, DEFAULT_MOVES, UINT16_MAX, DEFAULT_COST, UINT32_MAX, DEFAULT_STEPS);
     printf("Options may stand anywhere and be written --moves=12; -- ends them. Numbers are in base ten.\n"
-           "Of an option given twice the last counts.\n"
+           "A value that begins with -- is written in this way only. Of an option given twice the last counts.\n"
            "Exit status: 0 a plan, 1 another outcome, 2 a bad argument or a file that could not be read or written.\n");
 }
 

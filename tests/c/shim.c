@@ -4,9 +4,11 @@
  * - TRY_SYNC=n: a file cannot be synced, for the error n; TRY_SYNC_FOLDER=n: a folder cannot;
  * - TRY_WAITING=n: the signal n is blocked and waits when the program begins;
  * - TRY_OWNER=1: a file cannot be given to another owner, TRY_OWNER=2: nor to a group;
+ * - TRY_MEET=folder: before a file is first written, two programs wait for each other, by files in this folder;
  * - TRY_PUT_AWAY=name: the file of this name is renamed, to name.old, before the first lock is taken;
  * - TRY_PID=n: the process number is n. */
 #define _GNU_SOURCE
+#include <dirent.h>
 #include <errno.h>
 #include <sched.h>
 #include <signal.h>
@@ -26,10 +28,37 @@ static int setting(const char *name)
     return value == NULL ? 0 : atoi(value);
 }
 
+/* How many files a folder has, with the two that stand for folders. */
+static int files_in(const char *name)
+{
+    int count = 0;
+    DIR *folder = opendir(name);
+    while (folder != NULL && readdir(folder) != NULL)
+        count++;
+    if (folder != NULL)
+        closedir(folder);
+    return count;
+}
+
+/* Waits for the other program, at most some seconds. */
+static void meet(void)
+{
+    static bool met = false;
+    const char *folder = getenv("TRY_MEET");
+    char name[4096];
+    if (folder == NULL || met || snprintf(name, sizeof name, "%s/XXXXXX", folder) >= (int)sizeof name)
+        return;
+    met = close(mkstemp(name)) == 0;
+    for (int tries = 0; files_in(folder) < 4 && tries < 5000; tries++)
+        usleep(1000);
+}
+
 ssize_t write(int file, const void *bytes, size_t length)
 {
     static bool interrupted = false;
     bool in_pieces = setting("TRY_SHORT") != 0;
+    if (file > STDERR_FILENO)
+        meet();
     interrupted = in_pieces && !interrupted;
     if (interrupted) {
         errno = EINTR;
