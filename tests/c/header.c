@@ -1,6 +1,7 @@
-/* Calls every entry through include/planner.h, and holds its names to the library, so that a declaration, a helper or a
- * number that does not fit shows. Document 01's E; what each call has to give is written here by hand. The first that
- * differs is named, and the status is then 1. tests/c/header builds and runs it. */
+/* Calls every entry through include/planner.h, and uses each of its names, so that a declaration, a helper or a number
+ * that does not fit shows. Document 01's E; what each call has to give is written here by hand. The first that differs
+ * is named, and the status is then 1. tests/c/header builds and runs it. */
+#include <pthread.h>
 #include <stdbool.h>
 #include <stdio.h>
 #include <stdlib.h>
@@ -37,9 +38,15 @@ static bool holds(const uint8_t *buffer, size_t length, const uint8_t *front, si
 static void files(void)
 {
     static const uint8_t many[] = "positions=17\n";
+    static const uint8_t later[] = "positions=2\nsizes=2,2\nrules=1\ncost=1\nif=x2,x2\nthen=0,0\n";
+    static const uint8_t equal[] =
+        "positions=1\nsizes=2\nrules=2\ncost=1\nif=x1\nthen=0\ncost=2\nif=x1\nthen=0\n";
     uint8_t out[90];
     expect("planner_read", planner_read(rules, RULES_LENGTH) == PLANNER_OK);
     expect("planner_read of 17 positions", planner_read(many, sizeof many - 1) == PLANNER_OUTSIDE_LIMIT);
+    expect("planner_read of a later position's variable",
+           planner_read(later, sizeof later - 1) == PLANNER_MISPLACED_VARIABLE);
+    expect("planner_read of equal rules", planner_read(equal, sizeof equal - 1) == PLANNER_DUPLICATE_RULES);
     memset(out, 7, sizeof out);
     uint64_t answer = planner_rewrite(rules, RULES_LENGTH, out, sizeof out);
     expect("planner_rewrite", planner_outcome(answer) == PLANNER_OK && planner_size(answer) == 82);
@@ -77,7 +84,9 @@ static void macros(void)
 {
     /* both rules: x1,x2 to 0,0, at cost 2 */
     static const uint8_t whole[PLANNER_MACRO_SIZE] = {[0] = 16, [1] = 17, [32] = 2};
-    static const uint8_t both[] = {1, 2}, unknown[] = {1, 3};
+    static const uint8_t both[] = {1, 2}, unknown[] = {1, 3}, twice[] = {1, 1};
+    /* runs from 0 alone, to 1 */
+    static const uint8_t once[] = "positions=1\nsizes=2\nrules=1\ncost=1\nif=0\nthen=1\n";
     uint8_t out[40];
     memset(out, 7, sizeof out);
     uint8_t outcome = planner_macro(rules, RULES_LENGTH, both, 2, out, sizeof out);
@@ -89,6 +98,8 @@ static void macros(void)
            outcome == PLANNER_SHORT_TEXT_BUFFER && holds(out, PLANNER_MACRO_SIZE - 1, NULL, 0, 0));
     outcome = planner_macro(rules, RULES_LENGTH, unknown, 2, out, sizeof out);
     expect("planner_macro of rule 3", outcome == PLANNER_UNKNOWN_MOVE && holds(out, sizeof out, NULL, 0, 0));
+    outcome = planner_macro(once, sizeof once - 1, twice, 2, out, sizeof out);
+    expect("planner_macro of no state", outcome == PLANNER_NOT_ADMITTED && holds(out, sizeof out, NULL, 0, 0));
 }
 
 /* The answer of a search of E from 1,1 with these bounds. */
@@ -120,6 +131,10 @@ static void searches(void)
     expect("the plan buffer without a plan", holds(plan, sizeof plan, NULL, 0, PLANNER_ANY));
     expect("planner_search of 6 moves", search_e(goal, 2, plan, sizeof plan, 6, 9) == PLANNER_SHORT_PLAN_BUFFER);
     expect("planner_search with a short goal", search_e(goal, 1, plan, sizeof plan, 3, 9) == PLANNER_BAD_GOAL);
+    answer = planner_search(rules, RULES_LENGTH, marks, sizeof marks, goal, 1, goal, 2, plan, sizeof plan, 2, 3, 9, 4);
+    expect("planner_search with a short start", answer == PLANNER_BAD_START);
+    answer = planner_search(rules, RULES_LENGTH, marks, sizeof marks, goal, 2, goal, 2, plan, sizeof plan, 2, 3, 9, 0);
+    expect("planner_search of no steps", answer == PLANNER_STEP_LIMIT);
 }
 
 /* The outcome of a rule file with one rule and one position, of this size and cost; its front says so many rules. */
@@ -204,9 +219,11 @@ static void version(void)
     expect("PLANNER_VERSION", strcmp(text, PLANNER_VERSION) == 0);
 }
 
-int main(void)
+static void *all(void *unused)
 {
     expect("the length of E", RULES_LENGTH == 82);
+    /* no entry gives it */
+    expect("PLANNER_INVALID_RULE_SET", PLANNER_INVALID_RULE_SET == 7);
     files();
     tables();
     macros();
@@ -214,5 +231,18 @@ int main(void)
     numbers_of_files();
     limits();
     version();
+    return unused;
+}
+
+/* All calls are made by a thread that has PLANNER_STACK bytes of stack for them, and some for this program's own. */
+int main(void)
+{
+    enum { OWN_STACK = 65536 };
+    pthread_attr_t attributes;
+    pthread_t thread;
+    expect("pthread_attr_init", pthread_attr_init(&attributes) == 0);
+    expect("PLANNER_STACK", pthread_attr_setstacksize(&attributes, PLANNER_STACK + OWN_STACK) == 0);
+    expect("pthread_create", pthread_create(&thread, &attributes, all, NULL) == 0);
+    expect("pthread_join", pthread_join(thread, NULL) == 0);
     return 0;
 }

@@ -5,8 +5,7 @@
  * - TRY_WAITING=n: the signal n is blocked and waits when the program begins;
  * - TRY_OWNER=1: a file cannot be given to another owner, TRY_OWNER=2: nor to a group;
  * - TRY_MEET=folder: before a file is first written, two programs wait for each other, by files in this folder;
- * - TRY_PUT_AWAY=name: the file of this name is renamed, to name.old, before the first lock is taken;
- * - TRY_PID=n: the process number is n. */
+ * - TRY_PUT_AWAY=name: the file of this name is renamed, to name.old, before the first lock is taken. */
 #define _GNU_SOURCE
 #include <dirent.h>
 #include <errno.h>
@@ -111,9 +110,4 @@ __attribute__((constructor)) static void let_signal_wait(void)
     sigaddset(&waiting, setting("TRY_WAITING"));
     sigprocmask(SIG_BLOCK, &waiting, NULL);
     raise(setting("TRY_WAITING"));
-}
-
-pid_t getpid(void)
-{
-    return setting("TRY_PID") != 0 ? setting("TRY_PID") : (pid_t)syscall(SYS_getpid);
 }
