@@ -1,4 +1,4 @@
-// Rules and rule sets, states, validity, refusals and buffers: types, definitions and laws.
+// Limits, rules and rule sets, states, validity, refusals and buffers: constants, types, definitions and laws.
 
 // A state (document 01: a yard), a condition and an effect are sixteen bytes each: one for each position, and 0 in the
 // places beyond. An entry of a condition or an effect below 16 is that constant; 16 + k, for k from 0 to 15, is the
