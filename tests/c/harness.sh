@@ -1,6 +1,8 @@
 # What the scripts of tests/c share; each sources it first and calls `report` last. After `rt staticlib planner` and
 # `make -C examples`. What a program has to show is written in the scripts by hand; the first case that fails ends them.
 set -eu
+# signals that whoever calls this ignores, as under nohup, would not end the programs either
+[ -n "${SIGNALS_AS_USUAL-}" ] || SIGNALS_AS_USUAL=1 exec env --default-signal "$0" "$@"
 cd "$(dirname "${BASH_SOURCE[0]}")/../.."
 script=tests/c/$(basename "$0")
 plan=target/examples/plan
