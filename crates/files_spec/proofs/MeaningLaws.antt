@@ -8,7 +8,7 @@ use Rattle.theory_spec.specs.Lists.{padded}
 use Rattle.model_spec.specs.declared.RuleSet.{RuleSet}
 use Rattle.files_spec.specs.Reading.{reading}
 use Rattle.files_spec.specs.Writing.{written, writtenBuffer}
-use Rattle.files_spec.specs.Meaning.{JudgeMeaning, ReadMeaning, WriteMeaning}
+use Rattle.files_spec.specs.Meaning.{OutcomeMeaning, ReadMeaning, WriteMeaning}
 use Rattle.files_spec.proofs.RoundTrip.{accepted-iff, duplicates-iff, read-written}
 use Rattle.files_spec.proofs.ReadTextLaws.{read-as}
 use Rattle.files_spec.proofs.WriterLaws.{writes-iff, invalid-iff, short-iff}
@@ -16,8 +16,8 @@ use Rattle.files_spec.proofs.AgainLaws.{file-text, set-again}
 use Rattle.files_spec.proofs.RefusedLaws.{reading-bound, reading-refused, written-refused}
 use Rattle.files_spec.proofs.FaultLaws.{form-iff, limit-iff, place-iff}
 
-pub judge-meaning : (text : List ℕ) → JudgeMeaning text (reading text .outcome)
-judge-meaning text =
+pub outcome-meaning : (text : List ℕ) → OutcomeMeaning text (reading text .outcome)
+outcome-meaning text =
     record {
       faultless = accepted-iff text;
       badForm = form-iff text;
@@ -31,7 +31,7 @@ judge-meaning text =
 pub read-meaning : (text : List ℕ) → ReadMeaning text (reading text)
 read-meaning text =
     record {
-      judged = judge-meaning text;
+      judged = outcome-meaning text;
       given = λ taken. read-written text (reading text .set) (read-as text taken);
       refused = reading-refused text;
     }

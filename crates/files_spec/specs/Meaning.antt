@@ -16,7 +16,7 @@ use Rattle.files_spec.specs.declared.Written.{Written}
 
 -- the outcome of a text: each number exactly if its cause holds and none before it does, 0 exactly if the text has no
 -- fault, and no other number
-pub record JudgeMeaning (text : List ℕ) (outcome : ℕ) : Type 0 where
+pub record OutcomeMeaning (text : List ℕ) (outcome : ℕ) : Type 0 where
   pub faultless : (outcome ≡ 0) ↔ Faultless text
   pub badForm : (outcome ≡ 1) ↔ FileFault 1 text
   pub outsideLimit : (outcome ≡ 2) ↔ FileFault 2 text
@@ -26,7 +26,7 @@ pub record JudgeMeaning (text : List ℕ) (outcome : ℕ) : Type 0 where
 
 -- what reading a text gives: a valid set of which the text is the file, or the empty set
 pub record ReadMeaning (text : List ℕ) (answer : Reading) : Type 0 where
-  pub judged : JudgeMeaning text (answer .outcome)
+  pub judged : OutcomeMeaning text (answer .outcome)
   pub given : answer .outcome ≡ 0 → Valid (answer .set) × (render (answer .set) ≡ text)
   pub refused : answer .outcome ≢ 0 → answer .set ≡ emptySet
 

@@ -6,7 +6,7 @@ ghost use mathlib.Core.Path.{_≡_};
 ghost use Prim.Native.Nat.{_/_, _%_};
 ghost use lib.ListN.{length};
 ghost use Rattle.files_spec.specs.Reading.{reading};
-ghost use Rattle.files_spec.specs.Meaning.{JudgeMeaning};
+ghost use Rattle.files_spec.specs.Meaning.{OutcomeMeaning};
 ghost use Rattle.files_spec.specs.declared.Written.{Written};
 ghost use Rattle.tables_spec.specs.declared.TableSize.{TableSize};
 ghost use Rattle.search_spec.specs.Query.{asked};
@@ -23,7 +23,7 @@ ghost use Rattle.planner_spec.specs.TextSearch.{TextSearchMeaning};
 pub extern "C" fn planner_read(text: &[u8]) -> u8
     ensures { λ r. ⌜
         (r ≡ reading (now (text .entry)) .outcome)
-        × JudgeMeaning (now (text .entry)) r ⌝ }
+        × OutcomeMeaning (now (text .entry)) r ⌝ }
 {
     let judged = reader::read(text);
     judged.outcome

@@ -14,7 +14,7 @@ use Rattle.model_spec.specs.declared.RuleSet.{RuleSet}
 use Rattle.files_spec.specs.Reading.{reading}
 use Rattle.files_spec.proofs.RefusedLaws.{reading-other, reading-bound}
 use Rattle.files_spec.proofs.ReadTextLaws.{read-valid}
-use Rattle.files_spec.proofs.MeaningLaws.{judge-meaning}
+use Rattle.files_spec.proofs.MeaningLaws.{outcome-meaning}
 use Rattle.planner_spec.specs.OfText.{ofText, TextJudged}
 
 module _ {A : Type 0} (text : List ℕ) (fromSet : RuleSet → A) (fromRefusal : ℕ → A) where
@@ -67,7 +67,7 @@ module _ (text : List ℕ) (outcome : ℕ) (refused : reading text .outcome ≢ 
 
     pub text-judged : TextJudged text outcome
     text-judged =
-        let judged = judge-meaning text in
+        let judged = outcome-meaning text in
         record {
           badForm = as-read 1 (omega arith) (omega arith) (judged .badForm);
           outsideLimit = as-read 2 (omega arith) (omega arith) (judged .outsideLimit);
