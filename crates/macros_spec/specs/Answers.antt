@@ -6,8 +6,9 @@ use mathlib.Core.Option.{Option, some, none}
 use mathlib.Core.List.{List, [], _∷_}
 use Prim.Native.Nat.{ℕ, _≤_, _<_}
 use lib.Dec.{ltb, eqb}
-use lib.ListN.{length, replicate}
+use lib.ListN.{length, replicate, getD}
 use Rattle.theory_spec.specs.Lists.{any, within}
+use Rattle.theory_spec.specs.Sets.{has}
 use Rattle.theory_spec.specs.Sequences.{Sequence, Numbered}
 use Rattle.model_spec.specs.Limits.{placeCount, moveLimit}
 use Rattle.model_spec.specs.Refusals.{Cause, firstRefusal}
@@ -16,8 +17,10 @@ use Rattle.model_spec.specs.Rules.{StateOf, runIn, sequenceCost, admitted}
 use Rattle.model_spec.specs.Validity.{valid, LinesValid, Valid}
 use Rattle.model_spec.specs.declared.RuleSet.{RuleSet}
 use Rattle.macros_spec.specs.Composition.{Lines, composed}
+use Rattle.macros_spec.specs.Touched.{untouched, touchedOf, TouchMeaning, Reads, Writes}
 use Rattle.macros_spec.specs.declared.Macro.{Macro}
 use Rattle.macros_spec.specs.declared.MacroAnswer.{MacroAnswer}
+use Rattle.macros_spec.specs.declared.Touched.{Touched}
 
 -- the causes of the macro call once the set is judged: more than 32 moves; a move that is no rule's number; no state
 -- admits the sequence
@@ -41,11 +44,21 @@ abbrev pub macroAt : ℕ → Option Lines → Macro
 macroAt cost none = blankMacro
 macroAt cost (some m) = record { condition = m .condition; effect = m .effect; cost = cost }
 
--- the answer with an outcome: the sequence's vectors at its summed cost, or zeros when refused
+-- the positions that a sequence reads and writes; none for a sequence that no state admits
+unfoldable pub touchedIn : RuleSet → Sequence → Touched
+touchedIn set q = touchedOf set (composed set q)
+
+-- a refusal: zeros
+abbrev pub refusedMacro : ℕ → MacroAnswer
+refusedMacro outcome = record { outcome = outcome; result = blankMacro; touched = untouched }
+
+-- the answer with an outcome: the sequence's vectors at its summed cost, and what it reads and writes; zeros when
+-- refused
 abbrev pub macroWith : RuleSet → List ℕ → ℕ → MacroAnswer
 macroWith set moves outcome = record {
   outcome = outcome;
   result = cond (eqb outcome 0) (macroAt (sequenceCost set moves) (composed set moves)) blankMacro;
+  touched = cond (eqb outcome 0) (touchedIn set moves) untouched;
 }
 
 -- the answer
@@ -63,6 +76,18 @@ pub record Means (set : RuleSet) (q : Sequence) (m : Macro) : Type 0 where
   pub leadsTo : (s t : State) → StateOf set s → runIn set q s ≡ some t → successor (m .effect) s ≡ t
   pub costs : m .cost ≡ sequenceCost set q
 
+-- a sequence reads or writes position i + 1: its macro does. One that no state admits has no macro
+abbrev pub SequenceReads : RuleSet → Sequence → ℕ → Type 0
+SequenceReads set q i = (m : Macro) × Means set q m × Reads set m i
+
+abbrev pub SequenceWrites : RuleSet → Sequence → ℕ → Type 0
+SequenceWrites set q i = (m : Macro) × Means set q m × Writes set m i
+
+-- some state that admits the sequence holds another value there afterwards
+abbrev pub Changes : RuleSet → Sequence → ℕ → Type 0
+Changes set q i =
+    (s : State) × (t : State) × StateOf set s × (runIn set q s ≡ some t) × (getD t i 0 ≢ getD s i 0)
+
 -- no state admits the sequence
 abbrev pub Denied : RuleSet → Sequence → Type 0
 Denied set q = (s : State) → StateOf set s → runIn set q s ≡ none
@@ -77,7 +102,8 @@ abbrev pub Judged : RuleSet → Sequence → Type 0
 Judged set moves = Valid set × ((length moves ≤ moveLimit) × Numbered (set .count) moves)
 
 -- what an answer tells: each number exactly if its cause holds and none before it does, 0 exactly if none holds; what
--- the macro means; what it costs at most; and what a refusal leaves
+-- the macro means; what it costs at most; which positions it reads and writes, and that those written are those that
+-- it changes in some state; and what a refusal leaves
 pub record Meaning (set : RuleSet) (moves : Sequence) (answer : MacroAnswer) : Type 0 where
   pub notValid : (answer .outcome ≡ 7) ↔ (Valid set → ⊥)
   pub tooLong : (answer .outcome ≡ 11) ↔ (Valid set × (moveLimit < length moves))
@@ -87,4 +113,7 @@ pub record Meaning (set : RuleSet) (moves : Sequence) (answer : MacroAnswer) : T
   pub given : (answer .outcome ≡ 0) ↔ (Judged set moves × Admitted set moves)
   pub means : answer .outcome ≡ 0 → Means set moves (answer .result)
   pub bounded : answer .result .cost ≤ 8160
-  pub refused : answer .outcome ≢ 0 → answer .result ≡ blankMacro
+  pub touches : answer .outcome ≡ 0 → TouchMeaning set (answer .result) (answer .touched)
+  pub changes : answer .outcome ≡ 0 → (i : ℕ) → i < placeCount
+      → (has (answer .touched .writes) i ≡ true) ↔ Changes set moves i
+  pub refused : answer .outcome ≢ 0 → (answer .result ≡ blankMacro) × (answer .touched ≡ untouched)

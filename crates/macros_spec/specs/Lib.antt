@@ -1,4 +1,5 @@
 pub mod Composition
+pub mod Touched
 pub mod Answers
 pub mod Redundancy
 pub mod VectorMeaning

@@ -8,10 +8,18 @@ pub struct Macro {
     pub cost: u16,
 }
 
-// What the macro call gives: the outcome, 0, 7, 11, 13 or 17, and the macro, which is all zeros when refused.
+// The positions that are read and those that are written, as two sets: the lowest bit for position 1.
+pub struct Touched {
+    pub reads: u16,
+    pub writes: u16,
+}
+
+// What the macro call gives: the outcome, 0, 7, 11, 13 or 17, the macro, and the positions that it reads and writes.
+// All zeros when refused.
 pub struct MacroAnswer {
     pub outcome: u8,
     pub result: Macro,
+    pub touched: Touched,
 }
 
 // The vectors of a sequence, without its cost; zeros where no state admits it.

@@ -1,6 +1,7 @@
 pub mod OfText
 pub mod Packed
 pub mod PackedLength
+pub mod PackedTable
 pub mod TextSearch
 pub mod Rewriting
 pub mod TextTables

@@ -1,4 +1,5 @@
--- The C entry of the macro call: it takes the rule text in place of a set, and leaves the macro as bytes.
+-- The C entry of the macro call: it takes the rule text in place of a set, and leaves the macro, and the positions that
+-- it reads and writes, as bytes.
 use mathlib.Core.Path.{_≡_}
 use mathlib.Core.Logic.{_↔_, _≢_}
 use mathlib.Core.Bool.{cond}
@@ -11,21 +12,25 @@ use Rattle.model_spec.specs.Limits.{placeCount}
 use Rattle.model_spec.specs.Refusals.{Cause, firstRefusal}
 use Rattle.model_spec.specs.declared.RuleSet.{RuleSet}
 use Rattle.files_spec.specs.Reading.{reading}
-use Rattle.macros_spec.specs.Answers.{macroCauses, blankMacro, macroWith, Judged, Admitted, Meaning}
+use Rattle.macros_spec.specs.Answers.{macroCauses, refusedMacro, macroWith, Judged, Admitted, Meaning}
 use Rattle.macros_spec.specs.declared.Macro.{Macro}
 use Rattle.macros_spec.specs.declared.MacroAnswer.{MacroAnswer}
+use Rattle.macros_spec.specs.declared.Touched.{Touched}
 use Rattle.tables_spec.specs.Table.{entryAt, entryBytes}
 use Rattle.planner_spec.specs.OfText.{ofText, TextJudged}
 
 -- ── A macro's bytes ──────────────────────────────────────────────────────────────────────────────
 
--- condition, effect, and the cost in two bytes, as an entry of a table: low byte first
-unfoldable pub macroBytes : Macro → List ℕ
-macroBytes m = m .condition ++ (m .effect ++ entryBytes (m .cost))
+-- condition, effect, and in two bytes each, as an entry of a table, low byte first: the cost, the positions read and the
+-- positions written
+unfoldable pub macroBytes : Macro → Touched → List ℕ
+macroBytes m touched =
+    m .condition
+    ++ (m .effect ++ (entryBytes (m .cost) ++ (entryBytes (touched .reads) ++ entryBytes (touched .writes))))
 
 -- how many these are
 abbrev pub macroSize : ℕ
-macroSize = 34
+macroSize = 38
 
 -- the macro that stands at the front of a buffer: the cost is in the two bytes behind the vectors
 unfoldable pub macroOf : List ℕ → Macro
@@ -34,6 +39,10 @@ macroOf buffer = record {
   effect = take placeCount (drop placeCount buffer);
   cost = entryAt buffer placeCount;
 }
+
+-- and the two sets behind it
+unfoldable pub touchedAt : List ℕ → Touched
+touchedAt buffer = record { reads = entryAt buffer 17; writes = entryAt buffer 18 }
 
 -- ── What the call gives and leaves ───────────────────────────────────────────────────────────────
 
@@ -45,12 +54,12 @@ roomCauses set moves room = macroCauses set moves ++ ((8, ltb room macroSize) �
 unfoldable pub textMacro : List ℕ → List ℕ → ℕ → MacroAnswer
 textMacro text moves room =
     ofText text (λ set. macroWith set moves (firstRefusal (roomCauses set moves room)))
-    (λ n. record { outcome = n; result = blankMacro })
+    refusedMacro
 
 -- a buffer of `room` bytes after an answer: the macro's bytes and zeros after them; zeros alone when refused
 unfoldable pub macroBuffer : ℕ → MacroAnswer → List ℕ
 macroBuffer room answer =
-    cond (eqb (answer .outcome) 0) (padded room 0 (macroBytes (answer .result))) (replicate room 0)
+    cond (eqb (answer .outcome) 0) (padded room 0 (macroBytes (answer .result) (answer .touched))) (replicate room 0)
 
 -- ── What it means ────────────────────────────────────────────────────────────────────────────────
 
@@ -69,12 +78,14 @@ pub record TextMacroMeaning (text moves : List ℕ) (room outcome : ℕ) (buffer
   -- of a text that is read any other outcome has the meaning of the macro call on its set, and so has the macro whose
   -- bytes the buffer holds
   pub readText : reading text .outcome ≡ 0 → outcome ≢ 8
-      → (m : Macro)
-      × (buffer ≡ macroBuffer room (record { outcome = outcome; result = m }))
-      × Meaning (reading text .set) moves (record { outcome = outcome; result = m })
+      → (answer : MacroAnswer)
+      × (answer .outcome ≡ outcome)
+      × (buffer ≡ macroBuffer room answer)
+      × Meaning (reading text .set) moves answer
   -- which can be read back where there is room for it
   pub readBack : reading text .outcome ≡ 0 → macroSize ≤ room
-      → Meaning (reading text .set) moves (record { outcome = outcome; result = macroOf buffer })
+      → Meaning (reading text .set) moves
+      (record { outcome = outcome; result = macroOf buffer; touched = touchedAt buffer })
   -- a refusal leaves zeros
   pub zeros : outcome ≢ 0 → buffer ≡ replicate room 0
   -- a set that was read is valid

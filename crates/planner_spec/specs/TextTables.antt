@@ -6,8 +6,11 @@ use Prim.Native.Nat.{ℕ}
 use lib.ListN.{replicate}
 use Rattle.files_spec.specs.Reading.{reading}
 use Rattle.tables_spec.specs.declared.TableSize.{TableSize}
-use Rattle.tables_spec.specs.Answers.{tableSize, buildOutcome, builtBuffer, checkOutcome}
+use Rattle.tables_spec.specs.Answers.{tableSize, builtBuffer}
 use Rattle.tables_spec.specs.Answers.{SizeMeaning, BuildMeaning, CheckMeaning}
+use Rattle.macros_spec.specs.Touched.{untouched}
+use Rattle.unions_spec.specs.Unions.{buildAnswer, checkAnswer, UnionMeaning}
+use Rattle.unions_spec.specs.declared.TableAnswer.{TableAnswer}
 use Rattle.planner_spec.specs.PackedLength.{packedLength}
 use Rattle.planner_spec.specs.OfText.{ofText, TextJudged}
 
@@ -19,22 +22,26 @@ textTableSize text reach = ofText text (λ set. tableSize set reach) (λ n. reco
 unfoldable pub packedTableSize : List ℕ → ℕ → ℕ
 packedTableSize text reach = packedLength (textTableSize text reach .outcome) (textTableSize text reach .length)
 
--- the builder's outcome for a table of `size` bytes
-unfoldable pub textBuildOutcome : List ℕ → ℕ → ℕ → ℕ
-textBuildOutcome text reach size = ofText text (λ set. buildOutcome set reach size) (λ n. n)
+-- a refused text's answer: its number, and no positions
+abbrev pub refusedTable : ℕ → TableAnswer
+refusedTable outcome = record { outcome = outcome; touched = untouched }
+
+-- the builder's answer for a table of `size` bytes
+unfoldable pub textBuildAnswer : List ℕ → ℕ → ℕ → TableAnswer
+textBuildAnswer text reach size = ofText text (λ set. buildAnswer set reach size) refusedTable
 
 -- the table after the builder; a refused text zeroes it
 unfoldable pub textBuiltBuffer : List ℕ → ℕ → ℕ → List ℕ
 textBuiltBuffer text reach size = ofText text (λ set. builtBuffer set reach size) (λ n. replicate size 0)
 
--- the check's outcome
-unfoldable pub textCheckOutcome : List ℕ → ℕ → List ℕ → ℕ
-textCheckOutcome text reach table = ofText text (λ set. checkOutcome set reach table) (λ n. n)
+-- the check's answer
+unfoldable pub textCheckAnswer : List ℕ → ℕ → List ℕ → TableAnswer
+textCheckAnswer text reach table = ofText text (λ set. checkAnswer set reach table) refusedTable
 
 -- ── What they mean ───────────────────────────────────────────────────────────────────────────────
 
--- 1 to 4 are the text's faults. Of a refused text its own refusal, and no length or zeros; of any other what the call
--- on its set means. No entry gives 7: a set that was read is valid.
+-- 1 to 4 are the text's faults. Of a refused text its own refusal, and no length, no positions, zeros; of any other
+-- what the call on its set means. No entry gives 7: a set that was read is valid.
 
 pub record TextSizeMeaning (text : List ℕ) (reach : ℕ) (answer : TableSize) : Type 0 where
   pub judged : TextJudged text (answer .outcome)
@@ -42,14 +49,19 @@ pub record TextSizeMeaning (text : List ℕ) (reach : ℕ) (answer : TableSize) 
   pub readText : reading text .outcome ≡ 0 → SizeMeaning (reading text .set) reach answer
   pub never7 : answer .outcome ≢ 7
 
-pub record TextBuildMeaning (text : List ℕ) (reach size outcome : ℕ) (table : List ℕ) : Type 0 where
-  pub judged : TextJudged text outcome
-  pub refusedText : reading text .outcome ≢ 0 → (outcome ≡ reading text .outcome) × (table ≡ replicate size 0)
-  pub readText : reading text .outcome ≡ 0 → BuildMeaning (reading text .set) reach size outcome table
-  pub never7 : outcome ≢ 7
+pub record TextBuildMeaning (text : List ℕ) (reach size : ℕ) (answer : TableAnswer) (table : List ℕ) : Type 0 where
+  pub judged : TextJudged text (answer .outcome)
+  pub refusedText : reading text .outcome ≢ 0
+      → (answer ≡ refusedTable (reading text .outcome)) × (table ≡ replicate size 0)
+  pub readText : reading text .outcome ≡ 0
+      → BuildMeaning (reading text .set) reach size (answer .outcome) table
+      × UnionMeaning (reading text .set) reach table answer
+  pub never7 : answer .outcome ≢ 7
 
-pub record TextCheckMeaning (text : List ℕ) (reach : ℕ) (table : List ℕ) (outcome : ℕ) : Type 0 where
-  pub judged : TextJudged text outcome
-  pub refusedText : reading text .outcome ≢ 0 → outcome ≡ reading text .outcome
-  pub readText : reading text .outcome ≡ 0 → CheckMeaning (reading text .set) reach table outcome
-  pub never7 : outcome ≢ 7
+pub record TextCheckMeaning (text : List ℕ) (reach : ℕ) (table : List ℕ) (answer : TableAnswer) : Type 0 where
+  pub judged : TextJudged text (answer .outcome)
+  pub refusedText : reading text .outcome ≢ 0 → answer ≡ refusedTable (reading text .outcome)
+  pub readText : reading text .outcome ≡ 0
+      → CheckMeaning (reading text .set) reach table (answer .outcome)
+      × UnionMeaning (reading text .set) reach table answer
+  pub never7 : answer .outcome ≢ 7

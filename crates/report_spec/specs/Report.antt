@@ -2,16 +2,19 @@
 -- that means, over all sequences and states.
 use mathlib.Core.Path.{_≡_}
 use mathlib.Core.Logic.{_↔_, _≢_}
-use mathlib.Core.Bool.{cond}
+use mathlib.Core.Bool.{true, cond}
 use mathlib.Core.List.{List, [], _∷_, _++_}
 use Prim.Native.Nat.{ℕ, _-_, _<_}
 use lib.Dec.{leb}
 use lib.ListN.{length, replicate}
 use Rattle.theory_spec.specs.Lists.{_∈_, Pairwise, padded}
+use Rattle.theory_spec.specs.Sets.{has}
 use Rattle.theory_spec.specs.Sequences.{Sequence}
+use Rattle.model_spec.specs.Limits.{placeCount}
 use Rattle.model_spec.specs.declared.RuleSet.{RuleSet}
 use Rattle.files_spec.specs.Text.{numeral, line}
 use Rattle.files_spec.specs.Reading.{reading, ReadAs}
+use Rattle.macros_spec.specs.Answers.{touchedIn, SequenceReads, SequenceWrites}
 use Rattle.tables_spec.specs.Table.{tableEntries, sequenceAt, builtEntry, Prunable, LeastWitness}
 use Rattle.report_spec.specs.Listing.{listedReach, markedIndices, listingOf, listing}
 
@@ -29,7 +32,7 @@ Listed set q = (i : ℕ) × (i ∈ markedIndices set) × (sequenceAt set listedR
 
 -- what a report tells and leaves. A refused text is listed by its number alone. Of a text that is read, the sequences
 -- listed are exactly the prunable ones (document 01: needless), in order, and each with the smallest index that will do
--- as its witness. The buffer holds the whole listing, or nothing; the length is 0 exactly if the buffer is shorter than
+-- as its witness and the positions that it reads and writes. The buffer holds the whole listing, or nothing; the length is 0 exactly if the buffer is shorter than
 -- the listing
 pub record ReportMeaning (text : List ℕ) (room r : ℕ) (out : List ℕ) : Type 0 where
   pub refused : reading text .outcome ≢ 0 → listing text ≡ line "refused=" (numeral (reading text .outcome) ∷ [])
@@ -41,6 +44,10 @@ pub record ReportMeaning (text : List ℕ) (room r : ℕ) (out : List ℕ) : Typ
   pub rising : (set : RuleSet) → ReadAs text set → Pairwise (λ i j. i < j) (markedIndices set)
   pub least : (set : RuleSet) → ReadAs text set → (i : ℕ) → i ∈ markedIndices set
       → LeastWitness set listedReach i (builtEntry set listedReach i)
+  pub reads : (set : RuleSet) → ReadAs text set → (i k : ℕ) → i ∈ markedIndices set → k < placeCount
+      → let q = sequenceAt set listedReach i in (has (touchedIn set q .reads) k ≡ true) ↔ SequenceReads set q k
+  pub writes : (set : RuleSet) → ReadAs text set → (i k : ℕ) → i ∈ markedIndices set → k < placeCount
+      → let q = sequenceAt set listedReach i in (has (touchedIn set q .writes) k ≡ true) ↔ SequenceWrites set q k
   pub short : (r ≡ 0) ↔ (room < length (listing text))
   pub shown : r ≢ 0 → (r ≡ length (listing text)) × (out ≡ listing text ++ replicate (room - r) 0)
   pub zeros : r ≡ 0 → out ≡ replicate room 0

@@ -1,5 +1,6 @@
 pub mod ListLaws
 pub mod TestLaws
+pub mod SetLaws
 pub mod SequenceLaws
 pub mod OrderLaws
 pub mod IndexLaws

@@ -1,4 +1,5 @@
 pub mod Lists
+pub mod Sets
 pub mod Sequences
 pub mod Order
 pub mod Pruning
