@@ -17,7 +17,9 @@ use Rattle.model_spec.specs.Validity.{valid, WellFormed, Valid}
 use Rattle.model_spec.specs.declared.RuleSet.{RuleSet}
 use Rattle.model_spec.proofs.ValidityLaws.{valid-iff}
 use Rattle.macros_spec.specs.Composition.{Lines, composed}
-use Rattle.macros_spec.specs.Answers.{sequenceCauses, macroCauses, blankMacro, macroAt, macroWith, macroAnswer}
+use Rattle.macros_spec.specs.Touched.{touchedOf, touchedBy}
+use Rattle.macros_spec.specs.Answers.{sequenceCauses, macroCauses, macroAt, touchedIn, refusedMacro, macroWith}
+use Rattle.macros_spec.specs.Answers.{macroAnswer}
 use Rattle.macros_spec.specs.Answers.{Judged}
 use Rattle.macros_spec.specs.declared.MacroAnswer.{MacroAnswer}
 use Rattle.macros_spec.proofs.MoveLaws.{no-unknown-iff}
@@ -26,7 +28,7 @@ use Rattle.macros_spec.proofs.MeaningLaws.{admitted-composed}
 module _ (set : RuleSet) (moves : Sequence) where
   -- ── The answer to each cause ───────────────────────────────────────────────────────────────────
 
-  pub answer-invalid : valid set ≡ false → macroAnswer set moves ≡ record { outcome = 7; result = blankMacro }
+  pub answer-invalid : valid set ≡ false → macroAnswer set moves ≡ refusedMacro 7
   unfolding macroAnswer macroCauses
   answer-invalid e = rw e
 
@@ -38,6 +40,14 @@ module _ (set : RuleSet) (moves : Sequence) where
   unfolding macroAnswer macroCauses
   answer-judged isValid = rw isValid
 
+  -- with these vectors
+  abbrev pub givenMacro : Lines → MacroAnswer
+  givenMacro m = record {
+    outcome = 0;
+    result = macroAt (sequenceCost set moves) (some m);
+    touched = touchedBy set m;
+  }
+
   -- the answer by the three tests that are left: too many moves, an unknown one, whether a state admits the sequence
   abbrev byTests : Bool → Bool → Bool → MacroAnswer
   byTests long unknown admits =
@@ -46,14 +56,14 @@ module _ (set : RuleSet) (moves : Sequence) where
   abbrev unknownMove : Bool
   unknownMove = any (λ r. not (within 1 (set .count) r)) moves
 
-  pub worked-long : 32 < length moves → worked ≡ record { outcome = 11; result = blankMacro }
+  pub worked-long : 32 < length moves → worked ≡ refusedMacro 11
   worked-long h = ap (λ long. byTests long unknownMove (admitted set moves)) (lt-ltb 32 (length moves) h)
 
   module _ (few : length moves ≤ 32) where
     worked-few : worked ≡ byTests false unknownMove (admitted set moves)
     worked-few = ap (λ long. byTests long unknownMove (admitted set moves)) (le-ltb 32 (length moves) few)
 
-    pub worked-unknown : unknownMove ≡ true → worked ≡ record { outcome = 13; result = blankMacro }
+    pub worked-unknown : unknownMove ≡ true → worked ≡ refusedMacro 13
     worked-unknown e = worked-few ∙ ap (λ unknown. byTests false unknown (admitted set moves)) e
 
     module _ (formed : WellFormed set) (numbered : unknownMove ≡ false) where
@@ -62,46 +72,51 @@ module _ (set : RuleSet) (moves : Sequence) where
           let admits = admitted-composed set formed moves (no-unknown-iff (set .count) moves .0 numbered) ∙ ap isSome e in
           worked-few ∙ ap (λ unknown. byTests false unknown (admitted set moves)) numbered ∙ ap (byTests false false) admits
 
-      pub worked-denied : composed set moves ≡ none → worked ≡ record { outcome = 17; result = blankMacro }
+      pub worked-denied : composed set moves ≡ none → worked ≡ refusedMacro 17
       worked-denied e = worked-known none e
 
       pub worked-given : (m : Lines) → composed set moves ≡ some m
-          → worked ≡ record { outcome = 0; result = macroAt (sequenceCost set moves) (some m) }
+          → worked ≡ givenMacro m
+      unfolding touchedIn
       worked-given m e =
-          worked-known (some m) e ∙ ap (λ o. record { outcome = 0; result = macroAt (sequenceCost set moves) o }) e
+          worked-known (some m) e ∙ ap {B = MacroAnswer} (λ o. record {
+            outcome = 0;
+            result = macroAt (sequenceCost set moves) o;
+            touched = touchedOf set o;
+          }) e
 
   -- and of any set
   module _ (isValid : valid set ≡ true) where
-    answer-long : 32 < length moves → macroAnswer set moves ≡ record { outcome = 11; result = blankMacro }
+    answer-long : 32 < length moves → macroAnswer set moves ≡ refusedMacro 11
     answer-long h = answer-judged isValid ∙ worked-long h
 
     module _ (few : length moves ≤ 32) where
       answer-unknown : any (λ r. not (within 1 (set .count) r)) moves ≡ true
-          → macroAnswer set moves ≡ record { outcome = 13; result = blankMacro }
+          → macroAnswer set moves ≡ refusedMacro 13
       answer-unknown e = answer-judged isValid ∙ worked-unknown few e
 
       module _ (numbered : any (λ r. not (within 1 (set .count) r)) moves ≡ false) where
         judged : Judged set moves
         judged = (valid-iff set .0 isValid, (few, no-unknown-iff (set .count) moves .0 numbered))
 
-        answer-denied : composed set moves ≡ none → macroAnswer set moves ≡ record { outcome = 17; result = blankMacro }
+        answer-denied : composed set moves ≡ none → macroAnswer set moves ≡ refusedMacro 17
         answer-denied e = answer-judged isValid ∙ worked-denied few (judged .0 .formed) numbered e
 
         pub answer-given : (m : Lines) → composed set moves ≡ some m
-            → macroAnswer set moves ≡ record { outcome = 0; result = macroAt (sequenceCost set moves) (some m) }
+            → macroAnswer set moves ≡ givenMacro m
         answer-given m e = answer-judged isValid ∙ worked-given few (judged .0 .formed) numbered m e
 
   -- ── The five answers ───────────────────────────────────────────────────────────────────────────
 
   -- an answer, and what it is the answer to
   pub data Answered : MacroAnswer → Type 0 where
-    invalid : (Valid set → ⊥) → Answered (record { outcome = 7; result = blankMacro })
-    long : Valid set → 32 < length moves → Answered (record { outcome = 11; result = blankMacro })
+    invalid : (Valid set → ⊥) → Answered (refusedMacro 7)
+    long : Valid set → 32 < length moves → Answered (refusedMacro 11)
     unknown : Valid set → length moves ≤ 32 → (Numbered (set .count) moves → ⊥)
-        → Answered (record { outcome = 13; result = blankMacro })
-    denied : Judged set moves → composed set moves ≡ none → Answered (record { outcome = 17; result = blankMacro })
+        → Answered (refusedMacro 13)
+    denied : Judged set moves → composed set moves ≡ none → Answered (refusedMacro 17)
     given : Judged set moves → (m : Lines) → composed set moves ≡ some m
-        → Answered (record { outcome = 0; result = macroAt (sequenceCost set moves) (some m) })
+        → Answered (givenMacro m)
 
   -- the macro call's answer is one of them
   pub answered : Answered (macroAnswer set moves)

@@ -105,7 +105,7 @@ module _ (positions : ℕ) (sizes condition effect : List ℕ) (form : Canonical
       ))
       (below? y 16)
 
-  entries-equal : (x y : ℕ) → Kept x → Kept y → Alike x y → x ≡ y
+  pub entries-equal : (x y : ℕ) → Kept x → Kept y → Alike x y → x ≡ y
   entries-equal x y kx ky h =
       ⊎-elim (λ e. e)
       (λ d.

@@ -28,10 +28,10 @@ module _ (positions : ℕ) (few : positions ≤ 16) where
   unfolding ownVariables
   own-at = at-places (λ i. cond (ltb i positions) (16 + i) 0)
 
-  own-position : (i : ℕ) → i < positions → getD (ownVariables positions) i 0 ≡ 16 + i
+  pub own-position : (i : ℕ) → i < positions → getD (ownVariables positions) i 0 ≡ 16 + i
   own-position i h = own-at i (omega arith) ∙ rw (lt-ltb i positions h)
 
-  own-beyond : (i : ℕ) → positions ≤ i → getD (ownVariables positions) i 0 ≡ 0
+  pub own-beyond : (i : ℕ) → positions ≤ i → getD (ownVariables positions) i 0 ≡ 0
   own-beyond i h =
       ⊎-elim (λ q. own-at i q ∙ rw (le-ltb i positions h))
       (λ q. List·getD-eq-default (ownVariables positions) 0 {n = i} (omega (arith, own-length))) (below? i 16)

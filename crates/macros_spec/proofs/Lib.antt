@@ -1,3 +1,4 @@
+pub mod TouchedLaws
 pub mod AnswerLaws
 pub mod CanonicalForm
 pub mod CompositionLaws
@@ -9,6 +10,8 @@ pub mod EmptyLaws
 pub mod EquatedLaws
 pub mod ExtensionLaws
 pub mod FormLaws
+pub mod ChangeLaws
+pub mod SequenceTouchLaws
 pub mod MacroLaws
 pub mod MeaningLaws
 pub mod MoveLaws

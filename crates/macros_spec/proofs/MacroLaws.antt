@@ -7,10 +7,12 @@
 use mathlib.Core.Path.{_≡_, refl, sym, ap, _∙_, subst}
 use mathlib.Core.Logic.{_↔_, _≢_, ⊎-elim}
 use mathlib.Core.Option.{Option·none-ne-some}
+use mathlib.Core.Bool.{true}
 use mathlib.Core.List.{List, []}
 use Prim.Native.Nat.{ℕ, _≤_, _<_}
 use native.Mathlib.Omega.{arith}
 use lib.ListN.{length, getD}
+use Rattle.theory_spec.specs.Sets.{has}
 use Rattle.theory_spec.specs.Sequences.{Sequence, Numbered}
 use Rattle.theory_spec.proofs.TestLaws.{below?}
 use Rattle.model_spec.specs.Rules.{sequenceCost}
@@ -19,12 +21,16 @@ use Rattle.model_spec.specs.declared.RuleSet.{RuleSet}
 use Rattle.model_spec.proofs.StateLaws.{width-beyond}
 use Rattle.model_spec.proofs.ValidityLaws.{valid-iff, valid-cost}
 use Rattle.macros_spec.specs.Composition.{ownVariables, emptyLines, composedFrom, composed}
-use Rattle.macros_spec.specs.Answers.{blankMacro, macroAnswer, Means, Denied, Admitted, Judged, Meaning}
+use Rattle.macros_spec.specs.Touched.{untouched, TouchMeaning}
+use Rattle.macros_spec.specs.Answers.{blankMacro, macroAnswer, Means, Changes, Denied, Admitted, Judged, Meaning}
 use Rattle.macros_spec.specs.declared.Macro.{Macro}
 use Rattle.macros_spec.specs.declared.MacroAnswer.{MacroAnswer}
+use Rattle.macros_spec.specs.declared.Touched.{Touched}
 use Rattle.macros_spec.proofs.CanonicalForm.{Fitting}
 use Rattle.macros_spec.proofs.MeaningLaws.{means-canonical, means-admitted, composed-means, denied-iff}
 use Rattle.macros_spec.proofs.UniqueLaws.{means-unique}
+use Rattle.macros_spec.proofs.TouchedLaws.{touched-meaning, touched-unique}
+use Rattle.macros_spec.proofs.ChangeLaws.{writes-iff, empty-untouched}
 use Rattle.macros_spec.proofs.AnswerLaws.{Answered, invalid, long, unknown, denied, given, answered}
 use Rattle.macros_spec.proofs.AnswerLaws.{answer-given}
 
@@ -114,22 +120,49 @@ module _ (set : RuleSet) (moves : Sequence) where
       go (denied j e) z = absurd (omega arith)
       go (given j m e) z = composed-means set (j .0 .formed) moves (j .1 .1) m e
 
-  -- the macro is the one with the meaning
-  pub macro-iff : (m : Macro) → (macroAnswer set moves ≡ record { outcome = 0; result = m })
-      ↔ (Judged set moves × Means set moves m)
-  macro-iff m = (to, from)
+  -- which positions it reads and writes
+  macro-touches : macroAnswer set moves .outcome ≡ 0
+      → TouchMeaning set (macroAnswer set moves .result) (macroAnswer set moves .touched)
+  macro-touches = go (answered set moves)
     where
-      to : macroAnswer set moves ≡ record { outcome = 0; result = m } → Judged set moves × Means set moves m
-      to e =
-          let z = ap (λ (a : MacroAnswer). a .outcome) e in
-          (macro-given-iff .0 z .0, subst (Means set moves) (ap (λ (a : MacroAnswer). a .result) e) (macro-means z))
+      go : {a : MacroAnswer} → Answered set moves a → a .outcome ≡ 0 → TouchMeaning set (a .result) (a .touched)
+      go (invalid n) e = absurd (omega arith)
+      go (long v h) e = absurd (omega arith)
+      go (unknown v h n) e = absurd (omega arith)
+      go (denied j e) z = absurd (omega arith)
+      go (given j m e) z = touched-meaning set m (sequenceCost set moves)
 
-      from : Judged set moves × Means set moves m → macroAnswer set moves ≡ record { outcome = 0; result = m }
+  -- those written are those that some state changes
+  macro-changes : macroAnswer set moves .outcome ≡ 0 → (i : ℕ) → i < 16
+      → (has (macroAnswer set moves .touched .writes) i ≡ true) ↔ Changes set moves i
+  macro-changes z i h =
+      let written = macro-touches z .writes i h in
+      let changed = writes-iff set (macro-given-iff .0 z .0 .0 .formed) moves _ (macro-means z) i in
+      (λ t. changed .0 (written .0 t), λ c. written .1 (changed .1 c))
+
+  -- the macro is the one with the meaning, and so are the sets
+  pub macro-iff : (m : Macro) (t : Touched) → (macroAnswer set moves ≡ record { outcome = 0; result = m; touched = t })
+      ↔ (Judged set moves × (Means set moves m × TouchMeaning set m t))
+  macro-iff m t = (to, from)
+    where
+      to : macroAnswer set moves ≡ record { outcome = 0; result = m; touched = t }
+          → Judged set moves × (Means set moves m × TouchMeaning set m t)
+      to e =
+          let z = ap (λ (a : MacroAnswer). a .outcome) e in (
+            macro-given-iff .0 z .0,
+            subst (λ (a : MacroAnswer). Means set moves (a .result)
+                × TouchMeaning set (a .result) (a .touched)) e (macro-means z, macro-touches z),
+          )
+
+      from : Judged set moves × (Means set moves m × TouchMeaning set m t)
+          → macroAnswer set moves ≡ record { outcome = 0; result = m; touched = t }
       from w =
-          let z = macro-given-iff .1 (w .0, means-admitted set (w .0 .0 .formed) moves m (w .1)) in
+          let z = macro-given-iff .1 (w .0, means-admitted set (w .0 .0 .formed) moves m (w .1 .0)) in
           let same = means-unique set (w .0 .0 .formed) moves (macroAnswer set moves .result) m (macro-means z)
-          (w .1) in
-          λ i. record { outcome = z i; result = same i }
+          (w .1 .0) in
+          let touched = touched-unique set m (macroAnswer set moves .touched) t
+          (subst (λ (n : Macro). TouchMeaning set n (macroAnswer set moves .touched)) same (macro-touches z)) (w .1 .1) in
+          λ i. record { outcome = z i; result = same i; touched = touched i }
 
   -- a macro costs at most 8,160: at most 32 rules, each at most 255
   pub cost-bound : macroAnswer set moves .result .cost ≤ 8160
@@ -142,15 +175,17 @@ module _ (set : RuleSet) (moves : Sequence) where
       go (denied j e) = omega arith
       go (given j m e) = omega (arith, valid-cost set (j .0 .formed) moves (j .1 .1))
 
-  -- a refused macro is all zeros
-  pub macro-refused : macroAnswer set moves .outcome ≢ 0 → macroAnswer set moves .result ≡ blankMacro
+  -- a refused macro is all zeros, and touches nothing
+  pub macro-refused : macroAnswer set moves .outcome ≢ 0
+      → (macroAnswer set moves .result ≡ blankMacro) × (macroAnswer set moves .touched ≡ untouched)
   macro-refused = go (answered set moves)
     where
-      go : {a : MacroAnswer} → Answered set moves a → a .outcome ≢ 0 → a .result ≡ blankMacro
-      go (invalid n) _ = refl
-      go (long v h) _ = refl
-      go (unknown v h n) _ = refl
-      go (denied j e) _ = refl
+      go : {a : MacroAnswer} → Answered set moves a → a .outcome ≢ 0
+          → (a .result ≡ blankMacro) × (a .touched ≡ untouched)
+      go (invalid n) _ = (refl, refl)
+      go (long v h) _ = (refl, refl)
+      go (unknown v h n) _ = (refl, refl)
+      go (denied j e) _ = (refl, refl)
       go (given j m e) h = absurd (h refl)
 
   -- ── All of it ──────────────────────────────────────────────────────────────────────────────────
@@ -164,6 +199,8 @@ module _ (set : RuleSet) (moves : Sequence) where
     given = macro-given-iff;
     means = macro-means;
     bounded = cost-bound;
+    touches = macro-touches;
+    changes = macro-changes;
     refused = macro-refused;
   }
 
@@ -182,17 +219,26 @@ module _ (set : RuleSet) (isValid : Valid set) where
       let form = means-canonical set (isValid .formed) q m means in
       (zero-beyond (m .condition) (form .conditionFits) i h, zero-beyond (m .effect) (form .effectFits) i h)
 
-  -- the empty sequence's macro: each variable in its own place, at no cost
+  -- the empty sequence's macro: each variable in its own place, at no cost, and nothing read or written
   pub macro-empty : macroAnswer set []
       ≡ record {
-        outcome =
-            0;
+        outcome = 0;
         result = record {
           condition = ownVariables (set .positions);
           effect = ownVariables (set .positions);
-          cost =
-              0;
+          cost = 0;
         };
+        touched = untouched;
       }
   unfolding composed composedFrom emptyLines sequenceCost
-  macro-empty = answer-given set [] (valid-iff set .1 isValid) (omega arith) refl (emptyLines set) refl
+  macro-empty =
+      answer-given set [] (valid-iff set .1 isValid) (omega arith) refl (emptyLines set) refl
+      ∙ ap (λ (t : Touched). record {
+        outcome = 0;
+        result = record {
+          condition = ownVariables (set .positions);
+          effect = ownVariables (set .positions);
+          cost = 0;
+        };
+        touched = t;
+      }) (empty-untouched set (isValid .formed .positionLimits .1))
