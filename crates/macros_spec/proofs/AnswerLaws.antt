@@ -69,8 +69,11 @@ module _ (set : RuleSet) (moves : Sequence) where
     module _ (formed : WellFormed set) (numbered : unknownMove ≡ false) where
       worked-known : (o : Option Lines) → composed set moves ≡ o → worked ≡ byTests false false (isSome o)
       worked-known o e =
-          let admits = admitted-composed set formed moves (no-unknown-iff (set .count) moves .0 numbered) ∙ ap isSome e in
-          worked-few ∙ ap (λ unknown. byTests false unknown (admitted set moves)) numbered ∙ ap (byTests false false) admits
+          let known = no-unknown-iff (set .count) moves .0 numbered in
+          let admits = admitted-composed set formed moves known ∙ ap isSome e in
+          worked-few
+          ∙ ap (λ unknown. byTests false unknown (admitted set moves)) numbered
+          ∙ ap (byTests false false) admits
 
       pub worked-denied : composed set moves ≡ none → worked ≡ refusedMacro 17
       worked-denied e = worked-known none e

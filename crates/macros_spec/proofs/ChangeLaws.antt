@@ -114,7 +114,8 @@ module _ (set : RuleSet) (formed : WellFormed set) (q : Sequence) (m : Macro) (m
 pub empty-untouched : (set : RuleSet) → set .positions ≤ 16 → touchedBy set (emptyLines set) ≡ untouched
 unfolding emptyLines
 empty-untouched set few =
-    touched-unique set macro (touchedBy set (emptyLines set)) untouched (touched-meaning set (emptyLines set) 0) (record {
+    touched-unique set macro (touchedBy set (emptyLines set)) untouched (touched-meaning set (emptyLines set) 0)
+    (record {
       reads = λ i h. (λ t. absurd (false≢true (sym (has-none i) ∙ t)), λ r. absurd (not-read i r));
       writes = λ i h. (λ t. absurd (false≢true (sym (has-none i) ∙ t)), λ w. absurd (w .1 (λ _. getD own i 0)));
       sixteen = (omega arith, omega arith);

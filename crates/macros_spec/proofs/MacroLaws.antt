@@ -161,7 +161,8 @@ module _ (set : RuleSet) (moves : Sequence) where
           let same = means-unique set (w .0 .0 .formed) moves (macroAnswer set moves .result) m (macro-means z)
           (w .1 .0) in
           let touched = touched-unique set m (macroAnswer set moves .touched) t
-          (subst (λ (n : Macro). TouchMeaning set n (macroAnswer set moves .touched)) same (macro-touches z)) (w .1 .1) in
+          (subst (λ (n : Macro). TouchMeaning set n (macroAnswer set moves .touched)) same (macro-touches z))
+          (w .1 .1) in
           λ i. record { outcome = z i; result = same i; touched = touched i }
 
   -- a macro costs at most 8,160: at most 32 rules, each at most 255

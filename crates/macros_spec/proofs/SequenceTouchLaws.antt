@@ -22,7 +22,8 @@ use Rattle.macros_spec.proofs.MeaningLaws.{composed-means, denied-iff, 
 use Rattle.macros_spec.proofs.UniqueLaws.{means-unique}
 use Rattle.macros_spec.proofs.TouchedLaws.{touched-meaning}
 
-module _ (set : RuleSet) (formed : WellFormed set) (q : Sequence) (h : Numbered (set .count) q) (i : ℕ) (l : i < 16) where
+module _ (set : RuleSet) (formed : WellFormed set) (q : Sequence) (h : Numbered (set .count) q)
+    (i : ℕ) (l : i < 16) where
   -- without vectors there is no macro
   no-macro : composed set q ≡ none → (m : Macro) → Means set q m → ⊥
   no-macro e m means =
@@ -39,7 +40,8 @@ module _ (set : RuleSet) (formed : WellFormed set) (q : Sequence) (h : Numbered 
           let means = composed-means set formed q h m e in
           let tells = touched-meaning set m (sequenceCost set q) .reads i l in (
             λ t. (_, means, tells .0 t),
-            λ w. tells .1 (subst (λ (n : Macro). Reads set n i) (means-unique set formed q (w .0) _ (w .1) means) (w .2)),
+            λ w. let own = means-unique set formed q (w .0) _ (w .1) means in
+                tells .1 (subst (λ (n : Macro). Reads set n i) own (w .2)),
           )
 
   pub writes-iff : (has (touchedIn set q .writes) i ≡ true) ↔ SequenceWrites set q i
@@ -52,11 +54,13 @@ module _ (set : RuleSet) (formed : WellFormed set) (q : Sequence) (h : Numbered 
           let means = composed-means set formed q h m e in
           let tells = touched-meaning set m (sequenceCost set q) .writes i l in (
             λ t. (_, means, tells .0 t),
-            λ w. tells .1 (subst (λ (n : Macro). Writes set n i) (means-unique set formed q (w .0) _ (w .1) means) (w .2)),
+            λ w. let own = means-unique set formed q (w .0) _ (w .1) means in
+                tells .1 (subst (λ (n : Macro). Writes set n i) own (w .2)),
           )
 
 -- both are sets of sixteen digits
-pub touched-bound : (set : RuleSet) (q : Sequence) → (touchedIn set q .reads < 65536) × (touchedIn set q .writes < 65536)
+pub touched-bound : (set : RuleSet) (q : Sequence)
+    → (touchedIn set q .reads < 65536) × (touchedIn set q .writes < 65536)
 unfolding touchedIn
 touched-bound set q = go (composed set q)
   where

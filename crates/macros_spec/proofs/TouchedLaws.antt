@@ -101,7 +101,10 @@ touched-meaning set m cost = record {
   reads = λ i h. member-iff (λ k. manyValued set k && readAt m k) i h (reads-iff i);
   writes = λ i h. member-iff (λ k. manyValued set k && writtenAt m k) i h
       (and-iff (manyValued set i) (writtenAt m i) (many-iff set i) (written-iff m i));
-  sixteen = (setOf-below (λ k. manyValued set k && readAt m k) 16, setOf-below (λ k. manyValued set k && writtenAt m k) 16);
+  sixteen = (
+    setOf-below (λ k. manyValued set k && readAt m k) 16,
+    setOf-below (λ k. manyValued set k && writtenAt m k) 16,
+  );
 }
   where
     reads-iff : (i : ℕ) → ((manyValued set i && readAt m i) ≡ true)
@@ -115,7 +118,8 @@ touched-meaning set m cost = record {
 -- two sets that tell the same are the same
 pub touched-unique : (set : RuleSet) (m : Macro) (t u : Touched) → TouchMeaning set m t → TouchMeaning set m u → t ≡ u
 touched-unique set m t u v w =
-    let reads = sets-equal 16 (t .reads) (u .reads) (v .sixteen .0) (w .sixteen .0) (λ k h. agree (v .reads k h) (w .reads k h)) in
+    let reads = sets-equal 16 (t .reads) (u .reads) (v .sixteen .0) (w .sixteen .0)
+    (λ k h. agree (v .reads k h) (w .reads k h)) in
     let writes = sets-equal 16 (t .writes) (u .writes) (v .sixteen .1) (w .sixteen .1)
     (λ k h. agree (v .writes k h) (w .writes k h)) in
     λ i. record { reads = reads i; writes = writes i }

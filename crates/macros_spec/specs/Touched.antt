@@ -1,5 +1,5 @@
--- The positions that a sequence reads and writes (document 02: the bays that it touches), by its two vectors. A position
--- with a single value is in neither set.
+-- The positions that a sequence reads and writes (document 02: the bays that it touches), by its two vectors. A
+-- position with a single value is in neither set.
 use mathlib.Core.Path.{_≡_}
 use mathlib.Core.Logic.{_⊎_, _↔_, _≢_}
 use mathlib.Core.Bool.{Bool, true, not, _&&_, _||_}

@@ -21,8 +21,8 @@ use Rattle.planner_spec.specs.OfText.{ofText, TextJudged}
 
 -- ── A macro's bytes ──────────────────────────────────────────────────────────────────────────────
 
--- condition, effect, and in two bytes each, as an entry of a table, low byte first: the cost, the positions read and the
--- positions written
+-- condition, effect, and in two bytes each, as an entry of a table, low byte first: the cost, the positions read and
+-- the positions written
 unfoldable pub macroBytes : Macro → Touched → List ℕ
 macroBytes m touched =
     m .condition

@@ -66,11 +66,15 @@ or-bits x y (inr e) (inr f) = rw (e, f) refl
 -- the members of both sets, and of either
 pub has-and : (a b k : ℕ) → has (bitAnd a b) k ≡ (has a k && has b k)
 unfolding has
-has-and a b k = ap (λ x. eqb x 1) (digit-and a b k) ∙ and-bits (a / 2 ^ k % 2) (b / 2 ^ k % 2) (bit? (a / 2 ^ k)) (bit? (b / 2 ^ k))
+has-and a b k =
+    ap (λ x. eqb x 1) (digit-and a b k)
+    ∙ and-bits (a / 2 ^ k % 2) (b / 2 ^ k % 2) (bit? (a / 2 ^ k)) (bit? (b / 2 ^ k))
 
 pub has-or : (a b k : ℕ) → has (bitOr a b) k ≡ (has a k || has b k)
 unfolding has
-has-or a b k = ap (λ x. eqb x 1) (digit-or a b k) ∙ or-bits (a / 2 ^ k % 2) (b / 2 ^ k % 2) (bit? (a / 2 ^ k)) (bit? (b / 2 ^ k))
+has-or a b k =
+    ap (λ x. eqb x 1) (digit-or a b k)
+    ∙ or-bits (a / 2 ^ k % 2) (b / 2 ^ k % 2) (bit? (a / 2 ^ k)) (bit? (b / 2 ^ k))
 
 -- the empty set has no member, and no set below 2 ^ n one from n on
 pub has-none : (k : ℕ) → has 0 k ≡ false
@@ -86,9 +90,11 @@ pub has-own : (k j : ℕ) → has (2 ^ k) j ≡ eqb j k
 unfolding has
 has-own zero zero = refl
 has-own zero (suc j) = rw (div-eq-of-lt (pow-lt {i = 0} {j = suc j} (omega arith))) (sym (eqb·suc-zero j))
-has-own (suc k) zero = ap (λ x. eqb (x % 2) 1) (div-one (2 ^ suc k) ∙ pow-suc 2 k) ∙ rw mul-mod-left (sym (eqb·zero-suc k))
+has-own (suc k) zero =
+    ap (λ x. eqb (x % 2) 1) (div-one (2 ^ suc k) ∙ pow-suc 2 k) ∙ rw mul-mod-left (sym (eqb·zero-suc k))
 has-own (suc k) (suc j) =
-    ap (λ x. eqb (x % 2) 1) (ap₂ (λ x y. x / y) (pow-suc 2 k) (pow-suc 2 j) ∙ mul-div-mul-right (2 ^ k) (2 ^ j) (zero-lt-suc 1))
+    ap (λ x. eqb (x % 2) 1)
+    (ap₂ (λ x y. x / y) (pow-suc 2 k) (pow-suc 2 j) ∙ mul-div-mul-right (2 ^ k) (2 ^ j) (zero-lt-suc 1))
     ∙ has-own k j
     ∙ sym (eqb·suc-suc j k)
 
@@ -100,7 +106,9 @@ sets-equal (suc n) a b h l e =
     let first : eqb (a % 2) 1 ≡ eqb (b % 2) 1 = rw (div-one a, div-one b) at (e 0 (omega arith)) in
     let rest : a / 2 ≡ b / 2 =
     sets-equal n (a / 2) (b / 2) (half-below n a h) (half-below n b l)
-    (λ k i. ap (λ x. eqb (x % 2) 1) (sym (lower a k)) ∙ e (suc k) (omega arith) ∙ ap (λ x. eqb (x % 2) 1) (lower b k)) in
+    (λ k i. ap (λ x. eqb (x % 2) 1) (sym (lower a k))
+    ∙ e (suc k) (omega arith)
+    ∙ ap (λ x. eqb (x % 2) 1) (lower b k)) in
     let low : a % 2 ≡ b % 2 = same-bit (a % 2) (b % 2) (bit? a) (bit? b) first in
     omega arith
 
@@ -126,7 +134,8 @@ filled-none p j = has-none j ∙ ap (λ b. b && p j) (sym (le-ltb j 0 (omega ari
 module _ (p : ℕ → Bool) (m k : ℕ) (so-far : (j : ℕ) → has m j ≡ (ltb j k && p j)) where
   beside : (j : ℕ) → (j ≡ k → ⊥) → ltb j k ≡ ltb j (k + 1)
   beside j ne =
-      same-test (ltb j k) (ltb j (k + 1)) (λ e. lt-ltb j (k + 1) (omega (arith, ltb-true j k e))) (λ e. lt-ltb j k (lt-of-le-ne (omega (arith, ltb-true j (k + 1) e)) ne))
+      same-test (ltb j k) (ltb j (k + 1)) (λ e. lt-ltb j (k + 1) (omega (arith, ltb-true j k e)))
+      (λ e. lt-ltb j k (lt-of-le-ne (omega (arith, ltb-true j (k + 1) e)) ne))
 
   at-once : ltb k (k + 1) ≡ true
   at-once = lt-ltb k (k + 1) (omega arith)
@@ -140,8 +149,14 @@ module _ (p : ℕ → Bool) (m k : ℕ) (so-far : (j : ℕ) → has m j ≡ (ltb
       go : (eqb j k ≡ true) ⊎ (eqb j k ≡ false) → (has m j || eqb j k) ≡ (ltb j (k + 1) && p j)
       go (inl e) =
           let f : j ≡ k = eqb-true j k e in
-          ap (λ b. has m j || b) e ∙ or-true (has m j) ∙ sym (and-join (ap (λ x. ltb x (k + 1)) f ∙ at-once) (ap p f ∙ h))
-      go (inr e) = ap (λ b. has m j || b) e ∙ or-false (has m j) ∙ so-far j ∙ ap (λ b. b && p j) (beside j (eqb-false j k e))
+          ap (λ b. has m j || b) e
+          ∙ or-true (has m j)
+          ∙ sym (and-join (ap (λ x. ltb x (k + 1)) f ∙ at-once) (ap p f ∙ h))
+      go (inr e) =
+          ap (λ b. has m j || b) e
+          ∙ or-false (has m j)
+          ∙ so-far j
+          ∙ ap (λ b. b && p j) (beside j (eqb-false j k e))
 
   pub filled-skip : p k ≡ false → (j : ℕ) → has m j ≡ (ltb j (k + 1) && p j)
   filled-skip h j = so-far j ∙ go (passes? (eqb j k))
@@ -149,7 +164,9 @@ module _ (p : ℕ → Bool) (m k : ℕ) (so-far : (j : ℕ) → has m j ≡ (ltb
       go : (eqb j k ≡ true) ⊎ (eqb j k ≡ false) → (ltb j k && p j) ≡ (ltb j (k + 1) && p j)
       go (inl e) =
           let f : j ≡ k = eqb-true j k e in
-          ap (λ b. ltb j k && b) (ap p f ∙ h) ∙ and-false (ltb j k) ∙ sym (ap (λ b. ltb j (k + 1) && b) (ap p f ∙ h) ∙ and-false (ltb j (k + 1)))
+          ap (λ b. ltb j k && b) (ap p f ∙ h)
+          ∙ and-false (ltb j k)
+          ∙ sym (ap (λ b. ltb j (k + 1) && b) (ap p f ∙ h) ∙ and-false (ltb j (k + 1)))
       go (inr e) = ap (λ b. b && p j) (beside j (eqb-false j k e))
 
 -- ── The set of a test ────────────────────────────────────────────────────────────────────────────

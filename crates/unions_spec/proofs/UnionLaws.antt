@@ -138,7 +138,8 @@ build-unions set reach size =
     (equal? outcome 0)
 
 -- of the check's answer, and of the table that it is given
-pub check-unions : (set : RuleSet) (reach : ℕ) (table : List ℕ) → UnionMeaning set reach table (checkAnswer set reach table)
+pub check-unions : (set : RuleSet) (reach : ℕ) (table : List ℕ)
+    → UnionMeaning set reach table (checkAnswer set reach table)
 unfolding checkAnswer
 check-unions set reach table =
     with-meaning set reach table (checkOutcome set reach table)
@@ -200,8 +201,8 @@ module _ (part : Touched → ℕ) (none : part untouched ≡ 0)
   united-part : (table : List ℕ) → ((k : ℕ) → k < tableEntries set reach → marked k ≡ marks table k)
       → so-far (tableEntries set reach) ≡ unionOf part set reach table
   united-part table same =
-      sets-equal 16 (so-far (tableEntries set reach)) (unionOf part set reach table) (united-bound (tableEntries set reach))
-      (union-bound part set reach table)
+      sets-equal 16 (so-far (tableEntries set reach)) (unionOf part set reach table)
+      (united-bound (tableEntries set reach)) (union-bound part set reach table)
       (λ i h. united-has (tableEntries set reach) i
       ∙ any-same (tableEntries set reach) (λ k l. ap (λ b. b && has (own k) i) (same k l))
       ∙ sym (union-has part set reach table i h))
@@ -210,7 +211,9 @@ module _ (part : Touched → ℕ) (none : part untouched ≡ 0)
           → any p (numbersFrom 0 n) ≡ any r (numbersFrom 0 n)
       any-same {p} {r} zero e = refl
       any-same {p} {r} (suc n) e =
-          any-last p n ∙ ap₂ (λ a b. a || b) (any-same n (λ k h. e k (omega arith))) (e n (omega arith)) ∙ sym (any-last r n)
+          any-last p n
+          ∙ ap₂ (λ a b. a || b) (any-same n (λ k h. e k (omega arith))) (e n (omega arith))
+          ∙ sym (any-last r n)
 
 -- both
 pub united-all : (set : RuleSet) (reach : ℕ) (marked : ℕ → Bool) (table : List ℕ)
@@ -218,8 +221,9 @@ pub united-all : (set : RuleSet) (reach : ℕ) (marked : ℕ → Bool) (table : 
     → unitedTo set reach marked (tableEntries set reach) ≡ tableTouched set reach table
 unfolding tableTouched united
 united-all set reach marked table same =
-    let reads = united-part (λ t. t .reads) refl (λ a b. refl) (λ set q. touched-bound set q .0) set reach marked table same in
-    let writes = united-part (λ t. t .writes) refl (λ a b. refl) (λ set q. touched-bound set q .1) set reach marked table
+    let reads = united-part (λ t. t .reads) refl (λ a b. refl) (λ s q. touched-bound s q .0) set reach marked table
+    same in
+    let writes = united-part (λ t. t .writes) refl (λ a b. refl) (λ s q. touched-bound s q .1) set reach marked table
     same in
     λ i. record { reads = reads i; writes = writes i }
 

@@ -1,5 +1,5 @@
--- The unions as the loops of the builder and of the check make them, mark by mark. No promise of a call needs this file:
--- the law `united-all` equates it with `tableTouched`.
+-- The unions as the loops of the builder and of the check make them, mark by mark. No promise of a call needs this
+-- file: the law `united-all` equates it with `tableTouched`.
 use mathlib.Core.Bool.{Bool, cond}
 use Prim.Native.Nat.{ℕ, zero, suc}
 use lib.Bits.{bitOr}
