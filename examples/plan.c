@@ -245,7 +245,8 @@ int main(int count, char **arguments)
     struct request request = read_request(count, arguments);
     read_files(&request);
     /* a table that cannot be built has the outcome that a search would have, with no cost, length or steps */
-    struct result result = {.answer = builds_table(&request) ? build_table(&request.query) : PLANNER_OK};
+    uint64_t table = builds_table(&request) ? build_table(&request.query) : PLANNER_OK;
+    struct result result = {.answer = planner_outcome(table)};
     if (result.answer == PLANNER_OK)
         result = search(&request.query);
     bool logged = request.log == NULL || log_result(&request, &result);

@@ -7,7 +7,7 @@
 #define DIGITS_OF(number) #number
 #define DIGITS(number) DIGITS_OF(number)
 
-uint8_t build_table(struct query *query)
+uint64_t build_table(struct query *query)
 {
     uint64_t size = planner_table_size(query->rules.at, query->rules.length, query->reach);
     query->table = (struct bytes){NULL, 0, false};

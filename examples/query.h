@@ -23,8 +23,9 @@ struct query {
     uint32_t step_limit;
 };
 
-/* Builds the table of the query's rules and reach, and gives outcome 0; or the outcome for which there is none. */
-uint8_t build_table(struct query *query);
+/* Builds the table of the query's rules and reach, and gives planner_build_table's answer; where the table has no size,
+ * the outcome for which it has none. */
+uint64_t build_table(struct query *query);
 
 /* An outcome in words, `success` for 0, and what in the query is its cause. */
 void put_words(FILE *out, uint8_t outcome, const char *success, const struct query *query);

@@ -19,14 +19,17 @@ static void show_help(void)
     printf("usage: table build RULES REACH TABLE\n"
            "       table check RULES REACH TABLE\n"
            "build writes the pruning table of a rule file to the file TABLE; check says whether the table in the\n"
-           "file TABLE is accepted.\n"
+           "file TABLE is accepted. Both show the outcome in words, and with outcome 0 on two lines more the\n"
+           "positions read and the positions written by the table's marked sequences: comma lists, or the word none.\n"
            "  RULES      a rule file, of at most %d bytes; of a longer file the first %d are judged\n"
            "  REACH      1 to %d, in base ten\n"
            "  TABLE      a file; a table has at most %d bytes, and a longer file is not read to its end\n"
            "  --help     show this and do nothing else\n"
            "  --version  show the version and do nothing else\n",
            PLANNER_MAX_FILE, MOST_OF_RULES, PLANNER_MAX_REACH, PLANNER_MAX_TABLE);
-    printf("A new table is written beside TABLE under a name of its own, TABLE.XXXXXX, then takes its place by a\n"
+    printf("A sequence reads a position if it asks what it holds or puts that into another, and writes a position\n"
+           "if it changes it from some state.\n"
+           "A new table is written beside TABLE under a name of its own, TABLE.XXXXXX, then takes its place by a\n"
            "rename and keeps its mode. What fails before that, or a signal, leaves TABLE as it was and nothing\n"
            "beside it, save SIGKILL or a power cut: these may leave TABLE.XXXXXX. What fails later, standard output\n"
            "or the sync of the folder, does not undo it.\n"
@@ -36,12 +39,30 @@ static void show_help(void)
            "read or written.\n");
 }
 
-/* Shows an outcome and gives the exit status for it. */
-static int show_outcome(uint8_t outcome, const char *success, const struct query *query)
+/* A line with a set of positions: a comma list in rising order, or none. */
+static void show_positions(const char *touched, uint16_t set)
 {
+    const char *separator = "";
+    printf("positions %s by marked sequences: ", touched);
+    for (unsigned position = 1; position <= PLANNER_MAX_POSITIONS; position++)
+        if ((set >> (position - 1) & 1) != 0) {
+            printf("%s%u", separator, position);
+            separator = ",";
+        }
+    printf("%s\n", set == 0 ? "none" : "");
+}
+
+/* Shows an answer, the positions only of a table that is not refused, and gives the exit status for it. */
+static int show_answer(uint64_t answer, const char *success, const struct query *query)
+{
+    uint8_t outcome = planner_outcome(answer);
     printf("outcome %u: ", outcome);
     put_words(stdout, outcome, success, query);
     printf("\n");
+    if (outcome == PLANNER_OK) {
+        show_positions("read", planner_reads(answer));
+        show_positions("written", planner_writes(answer));
+    }
     return finish(outcome);
 }
 
@@ -132,19 +153,19 @@ static void replace_file(const char *path, struct bytes bytes)
 /* Builds the table, and writes it unless it is refused. */
 static int build(struct query *query, const char *path)
 {
-    uint8_t outcome = build_table(query);
-    if (outcome == PLANNER_OK)
+    uint64_t answer = build_table(query);
+    if (planner_outcome(answer) == PLANNER_OK)
         replace_file(path, query->table);
-    return show_outcome(outcome, "table built", query);
+    return show_answer(answer, "table built", query);
 }
 
 /* Checks the table in a file. */
 static int check(struct query *query, const char *path)
 {
     query->table = read_file(path, MOST_OF_TABLE);
-    uint8_t outcome = planner_check_table(query->rules.at, query->rules.length, query->table.at, query->table.length,
+    uint64_t answer = planner_check_table(query->rules.at, query->rules.length, query->table.at, query->table.length,
                                           query->reach);
-    return show_outcome(outcome, "table accepted", query);
+    return show_answer(answer, "table accepted", query);
 }
 
 int main(int count, char **arguments)

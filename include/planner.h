@@ -22,9 +22,9 @@ extern "C" {
 
 /* The version of this header and of the library that it declares. The first number is raised when an entry changes,
  * the second when something is added. */
-#define PLANNER_VERSION_MAJOR 1
+#define PLANNER_VERSION_MAJOR 2
 #define PLANNER_VERSION_MINOR 0
-#define PLANNER_VERSION "1.0"
+#define PLANNER_VERSION "2.0"
 
 /* What a call needs of the stack, in bytes. */
 #define PLANNER_STACK 262144
@@ -79,9 +79,16 @@ enum planner_outcome {
  * 2 * (1 + M + .. + M^L) bytes. */
 #define PLANNER_KEPT 65535
 
-/* The bytes of a macro: condition 16, effect 16, cost 2, low byte first. An entry below 16 is that constant; 16 + k is
- * the variable of position k + 1. Entries past the last position are 0. */
-#define PLANNER_MACRO_SIZE 34
+/* The bytes of a macro: condition 16, effect 16, cost 2, positions read 2, positions written 2, each low byte first. An
+ * entry below 16 is that constant; 16 + k is the variable of position k + 1. Entries past the last position are 0.
+ * A set of positions has 16 bits, the lowest for position 1. By its macro a sequence
+ * - reads the positions whose condition entry is a constant or another position's variable, and those whose variable is
+ *   another position's condition or effect entry: it asks what they hold, or puts that elsewhere;
+ * - writes the positions whose effect entry differs from their condition entry: from some state it changes them.
+ * A position's own effect entry plays no part in what is read: x1 to 0 writes position 1 and reads none. A position
+ * with a single value is in neither set (no rule file has one, the least size is 2). A sequence that no state admits
+ * reads and writes nothing. */
+#define PLANNER_MACRO_SIZE 38
 
 /* Searches for the cheapest plan from the start to the goal.
  * Takes a rule file; its table for this reach, built or from anywhere; a start and a goal with one byte for each
@@ -115,16 +122,23 @@ uint64_t planner_table_size(const uint8_t *rules, size_t rules_length, size_t re
 /* Builds the pruning table of a rule file for this reach.
  * Takes a buffer for the table, of exactly the bytes that planner_table_size says.
  * Outcomes, in this order: 1 to 4, 5, 6, 0. With outcome 0 the buffer holds the table, which is accepted, else
- * zeros. */
-uint8_t planner_build_table(const uint8_t *rules, size_t rules_length, uint8_t *table, size_t table_length,
-                            size_t reach);
+ * zeros.
+ * The answer packs the outcome, in the low byte, and the positions that the table's marked sequences read, in bits 16
+ * to 31, and write, in bits 32 to 47; its other bits are 0. planner_outcome, planner_reads and planner_writes take it
+ * apart. A position is in a set exactly if some marked sequence reads, or writes, it: a marked sequence that no state
+ * admits adds nothing. Both sets are 0 when refused. */
+uint64_t planner_build_table(const uint8_t *rules, size_t rules_length, uint8_t *table, size_t table_length,
+                             size_t reach);
 
-/* Checks a table for a rule file and this reach, whoever made it: 0 exactly if each of its marks is justified.
- * Outcomes, in this order: 1 to 4, 5, 6, 14, 0. Writes nothing. */
-uint8_t planner_check_table(const uint8_t *rules, size_t rules_length, const uint8_t *table, size_t table_length,
-                            size_t reach);
+/* Checks a table for a rule file and this reach, whoever made it: outcome 0 exactly if each of its marks is justified.
+ * Outcomes, in this order: 1 to 4, 5, 6, 14, 0. Writes nothing.
+ * The answer is packed as planner_build_table's, with the positions that the marked sequences of this table read and
+ * write; both sets are 0 when refused, 14 included. */
+uint64_t planner_check_table(const uint8_t *rules, size_t rules_length, const uint8_t *table, size_t table_length,
+                             size_t reach);
 
-/* The macro of a sequence of at most PLANNER_MAX_MOVES rule numbers, from 1, one byte each.
+/* The macro of a sequence of at most PLANNER_MAX_MOVES rule numbers, from 1, one byte each, and the positions that it
+ * reads and writes.
  * Outcomes, in this order: 1 to 4, 11, 13, 17, 8 (out is shorter than PLANNER_MACRO_SIZE), 0.
  * With outcome 0 out holds the macro's PLANNER_MACRO_SIZE bytes and zeros after them, else zeros. */
 uint8_t planner_macro(const uint8_t *rules, size_t rules_length, const uint8_t *moves, size_t moves_length,
@@ -138,6 +152,11 @@ static inline uint32_t planner_steps(uint64_t answer) { return (uint32_t)(answer
 
 /* The size in the answer of planner_rewrite and planner_table_size. */
 static inline uint64_t planner_size(uint64_t answer) { return answer >> 8; }
+
+/* The positions read and written in the answer of planner_build_table and planner_check_table, lowest bit for position
+ * 1. */
+static inline uint16_t planner_reads(uint64_t answer) { return (uint16_t)(answer >> 16 & 0xffff); }
+static inline uint16_t planner_writes(uint64_t answer) { return (uint16_t)(answer >> 32 & 0xffff); }
 
 #ifdef __cplusplus
 }
