@@ -18,6 +18,11 @@ cases=0
 e=examples/two-resets.rules
 h=examples/source-000.rules
 
+# the positions that the marked sequences of their reach 2 tables read, and those that they write. E: (1,1), (2,1) and
+# (2,2) put 0 into position 1, both, and 2. H: (3,4) goes from 1,0,0 to 3,1,1, and no state admits another marked one
+e_touches=(none 1,2)
+h_touches=(1,2,3 1,2,3)
+
 # an entry that keeps its sequence
 kept=65535
 
@@ -77,9 +82,14 @@ ends() {
   run 1 "$(shown_outcome "$1" "$2" "$3" && echo .)" . "$plan" "${@:4}"
 }
 
-# TEXT ARGUMENT..: the table tool's outcome 0
+# TEXT READ WRITTEN: what table shows of outcome 0, with the positions that the marked sequences read and write
+shown_table() {
+  lines "outcome 0: $1" "positions read by marked sequences: $2" "positions written by marked sequences: $3"
+}
+
+# TEXT READ WRITTEN ARGUMENT..: the table tool's outcome 0
 does() {
-  run 0 "outcome 0: $1"$'\n.' . "$table" "${@:2}"
+  run 0 "$(shown_table "$1" "$2" "$3" && echo .)" . "$table" "${@:4}"
 }
 
 # OUTCOME CAUSE ARGUMENT..: the table tool's refusals

@@ -1,6 +1,6 @@
 /* Calls every entry through include/planner.h, and uses each of its names, so that a declaration, a helper or a number
- * that does not fit shows. Document 01's E; what each call has to give is written here by hand. The first that differs
- * is named, and the status is then 1. tests/c/header builds and runs it. */
+ * that does not fit shows. Document 01's E and small rule files; what each call has to give is written here by hand.
+ * The first that differs is named, and the status is then 1. tests/c/header builds and runs it. */
 #include <pthread.h>
 #include <stdbool.h>
 #include <stdio.h>
@@ -15,7 +15,7 @@ static const uint8_t rules[] =
     "cost=1\nif=x1,x2\nthen=x1,0\n";
 enum { RULES_LENGTH = sizeof rules - 1 };
 
-/* drop=1,1 for=1; drop=2,1 for=1,2; drop=2,2 for=2 */
+/* drop=1,1 for=1; drop=2,1 for=1,2; drop=2,2 for=2: they read no position, and write 1 and 2 */
 static const uint8_t marks[14] = {255, 255, 255, 255, 255, 255, 1, 0, 255, 255, 4, 0, 2, 0};
 
 static void expect(const char *name, bool holds)
@@ -57,45 +57,105 @@ static void files(void)
     expect("the buffer of 81 bytes", holds(out, 81, NULL, 0, 0) && out[81] == 7);
 }
 
+/* Whether this is the answer for a table with outcome 0: the positions read in bits 16 to 31, those written in bits 32
+ * to 47, and no other bit. */
+static bool is_answer(uint64_t answer, uint16_t reads, uint16_t writes)
+{
+    return answer == ((uint64_t)reads << 16 | (uint64_t)writes << 32) && planner_outcome(answer) == PLANNER_OK
+        && planner_reads(answer) == reads && planner_writes(answer) == writes;
+}
+
 static void tables(void)
 {
     uint8_t table[14];
     memset(table, 7, sizeof table);
     uint64_t size = planner_table_size(rules, RULES_LENGTH, 2);
     expect("planner_table_size", planner_outcome(size) == PLANNER_OK && planner_size(size) == sizeof table);
-    uint8_t outcome = planner_build_table(rules, RULES_LENGTH, table, sizeof table, 2);
-    expect("planner_build_table", outcome == PLANNER_OK && holds(table, sizeof table, marks, sizeof marks, 0));
-    outcome = planner_build_table(rules, RULES_LENGTH, table, sizeof table, 1);
-    expect("planner_build_table of reach 1", outcome == PLANNER_BAD_TABLE_LENGTH);
+    uint64_t answer = planner_build_table(rules, RULES_LENGTH, table, sizeof table, 2);
+    expect("planner_build_table", is_answer(answer, 0, 3) && holds(table, sizeof table, marks, sizeof marks, 0));
+    answer = planner_build_table(rules, RULES_LENGTH, table, sizeof table, 1);
+    expect("planner_build_table of reach 1", answer == PLANNER_BAD_TABLE_LENGTH);
     expect("the table of a refused build", holds(table, sizeof table, NULL, 0, 0));
-    outcome = planner_check_table(rules, RULES_LENGTH, marks, sizeof marks, 2);
-    expect("planner_check_table", outcome == PLANNER_OK);
-    outcome = planner_check_table(rules, RULES_LENGTH, table, sizeof table, 2);
-    expect("planner_check_table of zeros", outcome == PLANNER_TABLE_NOT_ACCEPTED);
+    answer = planner_check_table(rules, RULES_LENGTH, marks, sizeof marks, 2);
+    expect("planner_check_table", is_answer(answer, 0, 3));
+    answer = planner_check_table(rules, RULES_LENGTH, table, sizeof table, 2);
+    expect("planner_check_table of zeros", answer == PLANNER_TABLE_NOT_ACCEPTED);
+    /* the same marks, but drop=2,2 for=1, which is wrong */
+    memcpy(table, marks, sizeof table);
+    table[12] = 1;
+    answer = planner_check_table(rules, RULES_LENGTH, table, sizeof table, 2);
+    expect("planner_check_table of a wrong mark", answer == PLANNER_TABLE_NOT_ACCEPTED);
+    answer = planner_check_table(rules, RULES_LENGTH, marks, sizeof marks, 4);
+    expect("planner_check_table of reach 4", answer == PLANNER_BAD_REACH);
     for (size_t at = 0; at < sizeof table; at += 2) {
         table[at] = PLANNER_KEPT & 255;
         table[at + 1] = PLANNER_KEPT >> 8;
     }
-    outcome = planner_check_table(rules, RULES_LENGTH, table, sizeof table, 2);
-    expect("planner_check_table of a table that keeps all", outcome == PLANNER_OK);
+    answer = planner_check_table(rules, RULES_LENGTH, table, sizeof table, 2);
+    expect("planner_check_table of a table that keeps all", is_answer(answer, 0, 0));
+}
+
+/* Whether a rule file has this table of reach 2, and its marked sequences read and write these positions. */
+static bool builds(const char *text, const uint8_t *entries, size_t length, uint16_t reads, uint16_t writes)
+{
+    const uint8_t *file = (const uint8_t *)text;
+    uint8_t table[14];
+    memset(table, 7, sizeof table);
+    return is_answer(planner_build_table(file, strlen(text), table, length, 2), reads, writes)
+        && holds(table, length, entries, length, 0)
+        && is_answer(planner_check_table(file, strlen(text), entries, length, 2), reads, writes);
+}
+
+/* Puts the last position's value into the first, of sixteen. */
+static const char last_to_first[] =
+    "positions=16\nsizes=2,2,2,2,2,2,2,2,2,2,2,2,2,2,2,2\nrules=1\n"
+    "cost=1\nif=x1,x2,x3,x4,x5,x6,x7,x8,x9,x10,x11,x12,x13,x14,x15,x16\n"
+    "then=x16,x2,x3,x4,x5,x6,x7,x8,x9,x10,x11,x12,x13,x14,x15,x16\n";
+
+static void positions(void)
+{
+    static const char first_to_last[] =
+        "positions=16\nsizes=2,2,2,2,2,2,2,2,2,2,2,2,2,2,2,2\nrules=1\n"
+        "cost=1\nif=x1,x2,x3,x4,x5,x6,x7,x8,x9,x10,x11,x12,x13,x14,x15,x16\n"
+        "then=x1,x2,x3,x4,x5,x6,x7,x8,x9,x10,x11,x12,x13,x14,x15,x1\n";
+    /* both rules need 0 at position 1 and leave 1 there: no state admits two */
+    static const char once_only[] =
+        "positions=2\nsizes=2,2\nrules=2\ncost=1\nif=0,x2\nthen=1,x2\ncost=1\nif=0,x2\nthen=1,0\n";
+    /* drop=1,1 for=1 */
+    static const uint8_t twice_as_once[] = {255, 255, 255, 255, 1, 0};
+    /* drop=1,1 to drop=2,2, for= */
+    static const uint8_t no_pair[] = {255, 255, 255, 255, 255, 255, 0, 0, 0, 0, 0, 0, 0, 0};
+    expect("position 16 read, 1 written", builds(last_to_first, twice_as_once, sizeof twice_as_once, 0x8000, 1));
+    expect("position 1 read, 16 written", builds(first_to_last, twice_as_once, sizeof twice_as_once, 1, 0x8000));
+    expect("marks of sequences that no state admits", builds(once_only, no_pair, sizeof no_pair, 0, 0));
+    expect("planner_reads", planner_reads(0x123456789abcdef0) == 0x9abc);
+    expect("planner_writes", planner_writes(0x123456789abcdef0) == 0x5678);
 }
 
 static void macros(void)
 {
-    /* both rules: x1,x2 to 0,0, at cost 2 */
-    static const uint8_t whole[PLANNER_MACRO_SIZE] = {[0] = 16, [1] = 17, [32] = 2};
+    /* both rules: x1,x2 to 0,0, at cost 2; no position is read, both are written */
+    static const uint8_t whole[PLANNER_MACRO_SIZE] = {[0] = 16, [1] = 17, [32] = 2, [36] = 3};
     static const uint8_t both[] = {1, 2}, unknown[] = {1, 3}, twice[] = {1, 1};
+    /* position 16 is read, in the high byte, and 1 is written */
+    static const uint8_t copied[PLANNER_MACRO_SIZE] = {
+        16, 17, 18, 19, 20, 21, 22, 23, 24, 25, 26, 27, 28, 29, 30, 31,
+        31, 17, 18, 19, 20, 21, 22, 23, 24, 25, 26, 27, 28, 29, 30, 31, 2, 0, 0, 0x80, 1, 0};
     /* runs from 0 alone, to 1 */
     static const uint8_t once[] = "positions=1\nsizes=2\nrules=1\ncost=1\nif=0\nthen=1\n";
     uint8_t out[40];
     memset(out, 7, sizeof out);
     uint8_t outcome = planner_macro(rules, RULES_LENGTH, both, 2, out, sizeof out);
     expect("planner_macro", outcome == PLANNER_OK && holds(out, sizeof out, whole, sizeof whole, 0));
-    outcome = planner_macro(rules, RULES_LENGTH, both, 2, out, PLANNER_MACRO_SIZE);
-    expect("planner_macro into 34", outcome == PLANNER_OK && holds(out, PLANNER_MACRO_SIZE, whole, sizeof whole, 0));
-    outcome = planner_macro(rules, RULES_LENGTH, both, 2, out, PLANNER_MACRO_SIZE - 1);
-    expect("planner_macro into 33",
-           outcome == PLANNER_SHORT_TEXT_BUFFER && holds(out, PLANNER_MACRO_SIZE - 1, NULL, 0, 0));
+    memset(out, 7, sizeof out);
+    outcome = planner_macro(rules, RULES_LENGTH, both, 2, out, 38);
+    expect("planner_macro into 38", outcome == PLANNER_OK && holds(out, 38, whole, sizeof whole, 0) && out[38] == 7);
+    expect("PLANNER_MACRO_SIZE", PLANNER_MACRO_SIZE == 38);
+    memset(out, 7, sizeof out);
+    outcome = planner_macro(rules, RULES_LENGTH, both, 2, out, 37);
+    expect("planner_macro into 37", outcome == PLANNER_SHORT_TEXT_BUFFER && holds(out, 37, NULL, 0, 0) && out[37] == 7);
+    outcome = planner_macro((const uint8_t *)last_to_first, sizeof last_to_first - 1, twice, 2, out, sizeof out);
+    expect("planner_macro of a copy", outcome == PLANNER_OK && holds(out, sizeof out, copied, sizeof copied, 0));
     outcome = planner_macro(rules, RULES_LENGTH, unknown, 2, out, sizeof out);
     expect("planner_macro of rule 3", outcome == PLANNER_UNKNOWN_MOVE && holds(out, sizeof out, NULL, 0, 0));
     outcome = planner_macro(once, sizeof once - 1, twice, 2, out, sizeof out);
@@ -226,6 +286,7 @@ static void *all(void *unused)
     expect("PLANNER_INVALID_RULE_SET", PLANNER_INVALID_RULE_SET == 7);
     files();
     tables();
+    positions();
     macros();
     searches();
     numbers_of_files();
