@@ -1,4 +1,5 @@
-//! The oracle against itself: its two ways to redundancy, to the plan and to the steps agree, and a macro does what its rules do in every state.
+//! The oracle against itself: its two ways to redundancy, to the positions that a sequence reads and writes, to the plan and to the steps agree, and a macro does
+//! what its rules do in every state.
 
 use planner_tests::calls::Query;
 use planner_tests::draw;
@@ -8,11 +9,12 @@ use planner_tests::oracle::search::{all_within, plan_among, plan_by_states, step
 use planner_tests::oracle::sequences::{count, index, sequences};
 use planner_tests::oracle::symbolic::Run;
 use planner_tests::oracle::table::{accepted, built};
+use planner_tests::oracle::touched::Touched;
 use planner_tests::oracle::{file, writer};
 use planner_tests::random::{seed, Random};
 use std::io::Write;
 
-fn drawn(test: &str, sets: usize, states: usize, rules: usize, check: impl Fn(&mut Random, &Set)) {
+fn drawn(test: &str, sets: usize, states: usize, rules: usize, mut check: impl FnMut(&mut Random, &Set)) {
     let seed = seed();
     writeln!(std::io::stdout(), "oracle, {test}: seed={seed} sets={sets}").expect("standard output");
     let mut random = Random::new(seed);
@@ -67,6 +69,29 @@ fn both_ways_to_redundancy_agree() {
         }
         assert!(accepted(&symbolic, &built(&by_state)));
     });
+}
+
+#[test]
+fn both_ways_to_touched_positions_agree() {
+    // sequences compared; those that read a position, that write one, that do one of both alone, and that no state admits
+    let mut met = [0; 5];
+    drawn("touched", 1000, 100, 6, |random, set| {
+        let mut all = sequences(set.rules.len(), 2);
+        all.extend((0..4).map(|_| (0..random.from_to(3, 6)).map(|_| random.from_to(1, set.rules.len()) as u8).collect()));
+        let by_index = Touched::by_index(set, 2);
+        for (index, sequence) in all.iter().enumerate() {
+            let by_macro = Touched::by(set, sequence);
+            assert!(by_index.get(index).is_none_or(|touched| *touched == by_macro), "{set:?} {sequence:?}");
+            assert_eq!(by_macro, Touched::by_states(set, sequence), "{set:?} {sequence:?}");
+            let denied = Run::of(set, sequence).is_none();
+            assert!(!denied || by_macro == Touched::default(), "{set:?} {sequence:?}");
+            let (reads, writes) = (by_macro.reads != 0, by_macro.writes != 0);
+            for (count, is_so) in met.iter_mut().zip([true, reads, writes, reads != writes, denied]) {
+                *count += usize::from(is_so);
+            }
+        }
+    });
+    assert!(met.iter().all(|&count| count >= 1000), "too few: {met:?}");
 }
 
 #[test]

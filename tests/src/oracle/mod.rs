@@ -1,4 +1,5 @@
-//! Document 01 once more, in Rust: what each C entry has to answer. One thought a file; the words in quotation marks are document 01's.
+//! Document 01 once more, in Rust, with the changes of document 02 that are made: what each C entry has to answer. One thought a file; the words in quotation
+//! marks are the documents'.
 
 pub mod file;
 mod macro_answer;
@@ -10,16 +11,19 @@ pub mod sequences;
 pub mod symbolic;
 pub mod table;
 mod table_answers;
+pub mod touched;
 pub mod writer;
 
 use crate::calls::{Answer, Call};
 use model::Set;
 use redundancy::Redundancy;
+use touched::Touched;
 
-/// A rule file as judged, with the redundancies of each reach once they are asked for.
+/// A rule file as judged, with the redundancies of each reach, and what each sequence touches, once they are asked for.
 pub struct Judged<'a> {
     set: &'a Result<Set, u8>,
     redundancies: [Option<Redundancy>; 3],
+    touched: [Option<Vec<Touched>>; 3],
 }
 
 /// What the call has to answer.
@@ -35,12 +39,18 @@ fn bare(outcome: u8, buffer: Vec<u8>) -> Answer {
 
 impl<'a> Judged<'a> {
     pub fn new(set: &'a Result<Set, u8>) -> Self {
-        Judged { set, redundancies: [None, None, None] }
+        Judged { set, redundancies: [None, None, None], touched: [None, None, None] }
     }
 
     pub fn redundancy(&mut self, reach: usize) -> &Redundancy {
         let set = self.set.as_ref().expect("a file without a fault");
         self.redundancies[reach - 1].get_or_insert_with(|| Redundancy::new(set, reach))
+    }
+
+    /// What each sequence touches, by its index.
+    pub fn touched(&mut self, reach: usize) -> &[Touched] {
+        let set = self.set.as_ref().expect("a file without a fault");
+        self.touched[reach - 1].get_or_insert_with(|| Touched::by_index(set, reach))
     }
 
     /// What the call has to answer; its file is the one that was judged.

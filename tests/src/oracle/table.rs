@@ -14,6 +14,11 @@ pub fn entries(table: &[u8]) -> Vec<u16> {
     table.chunks_exact(2).map(|pair| u16::from_le_bytes([pair[0], pair[1]])).collect()
 }
 
+/// The indices of the marked sequences: "another value marks the sequence".
+pub fn marked(entries: &[u16]) -> impl Iterator<Item = usize> + '_ {
+    (0..entries.len()).filter(|&index| entries[index] != KEPT)
+}
+
 /// "B is needless if it has 1 to L rules and is redundant with some earlier A"; "The builder names the smallest index that will do."
 pub fn built(redundancy: &Redundancy) -> Vec<u16> {
     let witness = |b: usize| (0..b).find(|&a| redundancy.redundant(b, a)).map_or(KEPT, |a| a as u16);
