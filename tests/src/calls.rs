@@ -48,6 +48,15 @@ impl Answer {
         self.number >> 32
     }
 
+    /// A table's unions: the positions that its marked sequences read, and those that they write.
+    pub fn reads(&self) -> u16 {
+        (self.number >> 16 & 0xffff) as u16
+    }
+
+    pub fn writes(&self) -> u16 {
+        (self.number >> 32 & 0xffff) as u16
+    }
+
     /// The size of a rewritten file or of a table.
     pub fn size(&self) -> usize {
         (self.number >> 8) as usize

@@ -24,8 +24,8 @@ extern "C" {
     fn planner_read(text: *const u8, text_length: usize) -> u8;
     fn planner_rewrite(text: *const u8, text_length: usize, out: *mut u8, out_length: usize) -> u64;
     fn planner_table_size(rules: *const u8, rules_length: usize, reach: usize) -> u64;
-    fn planner_build_table(rules: *const u8, rules_length: usize, table: *mut u8, table_length: usize, reach: usize) -> u8;
-    fn planner_check_table(rules: *const u8, rules_length: usize, table: *const u8, table_length: usize, reach: usize) -> u8;
+    fn planner_build_table(rules: *const u8, rules_length: usize, table: *mut u8, table_length: usize, reach: usize) -> u64;
+    fn planner_check_table(rules: *const u8, rules_length: usize, table: *const u8, table_length: usize, reach: usize) -> u64;
     fn planner_macro(rules: *const u8, rules_length: usize, moves: *const u8, moves_length: usize, out: *mut u8, out_length: usize) -> u8;
 }
 
@@ -150,13 +150,13 @@ fn made(call: &Call, null: bool) -> Answer {
         Call::BuildTable { table_length, reach, .. } => {
             let mut table = Lent::writing(*table_length);
             let number = unsafe { planner_build_table(from, text.len(), table.pointer(null), *table_length, *reach) };
-            Answer { number: number.into(), buffer: table.written() }
+            Answer { number, buffer: table.written() }
         }
         Call::CheckTable { table, reach, .. } => {
             let mut marks = Lent::reading(table);
             let number = unsafe { planner_check_table(from, text.len(), marks.pointer(null), table.len(), *reach) };
             marks.unchanged(table);
-            Answer { number: number.into(), buffer: vec![] }
+            Answer { number, buffer: vec![] }
         }
         Call::Macro { moves, out_length, .. } => {
             let (mut sequence, mut out) = (Lent::reading(moves), Lent::writing(*out_length));

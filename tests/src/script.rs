@@ -72,7 +72,7 @@ pub fn calls(script: &str) -> Vec<Call> {
             ("s", _) => rules = None,
             ("m", Some(rules)) => {
                 let moves = byte_list(item(1));
-                calls.extend([34, 40, 33, 0].map(|out_length| Call::Macro { rules: rules.clone(), moves: moves.clone(), out_length }));
+                calls.extend([38, 44, 37, 34, 0].map(|out_length| Call::Macro { rules: rules.clone(), moves: moves.clone(), out_length }));
             }
             ("w", Some(rules)) => calls.extend(redundancy(rules, &byte_list(item(1)), &byte_list(item(3)))),
             ("b", Some(rules)) => {

@@ -4,7 +4,10 @@ use crate::calls::{Answer, Query};
 use crate::oracle::model::{Rule, Set};
 use crate::oracle::redundancy::Redundancy;
 use crate::oracle::search::{meets, Ran};
-use crate::oracle::table::KEPT;
+use crate::oracle::sequences::sequences;
+use crate::oracle::symbolic::Run;
+use crate::oracle::table::{marked, KEPT};
+use crate::oracle::touched::Touched;
 
 /// What happened in a run, beside the outcomes. Each has to happen.
 #[derive(Default, Debug)]
@@ -36,6 +39,17 @@ pub struct Seen {
     pub several_causes: u64,
     /// macros run in every state
     pub macros_run: u64,
+    /// macros that read a position, and that write one
+    pub macros_reading: u64,
+    pub macros_writing: u64,
+    /// tables built or accepted: whose marked sequences read a position, or write one; read or write more than each of them alone
+    pub unions_reading: u64,
+    pub unions_writing: u64,
+    pub unions_of_several: u64,
+    /// whose witnesses touch other positions; with marks, and nothing touched; with marks, and all of them on sequences that no state admits
+    pub unions_unlike_witnesses: u64,
+    pub unions_empty: u64,
+    pub unions_denied: u64,
 }
 
 impl Seen {
@@ -60,6 +74,29 @@ impl Seen {
         let free = Set { rules: set.rules.iter().map(|rule| Rule { cost: 0, ..rule.clone() }).collect(), ..set.clone() };
         let without_costs = Redundancy::new(&free, reach);
         self.kept_for_cost += u64::from(kept.iter().any(|&b| (0..b).any(|a| without_costs.redundant(b, a))));
+    }
+
+    /// Notes the sets of a macro.
+    pub fn touched(&mut self, touched: Touched) {
+        self.macros_reading += u64::from(touched.reads != 0);
+        self.macros_writing += u64::from(touched.writes != 0);
+    }
+
+    /// Notes a table that was built or accepted, with what each sequence touches, by its index.
+    pub fn unions(&mut self, set: &Set, reach: usize, touched: &[Touched], entries: &[u16], answer: &Answer) {
+        let unions = Touched { reads: answer.reads(), writes: answer.writes() };
+        let marks: Vec<usize> = marked(entries).collect();
+        let of_witnesses = Touched::union(marks.iter().map(|&index| &touched[entries[index] as usize]));
+        self.unions_reading += u64::from(unions.reads != 0);
+        self.unions_writing += u64::from(unions.writes != 0);
+        self.unions_unlike_witnesses += u64::from(of_witnesses != unions);
+        if marks.is_empty() {
+            return;
+        }
+        self.unions_of_several += u64::from(marks.iter().all(|&index| touched[index] != unions));
+        self.unions_empty += u64::from(unions == Touched::default());
+        let sequences = sequences(set.rules.len(), reach);
+        self.unions_denied += u64::from(marks.iter().all(|&index| Run::of(set, &sequences[index]).is_none()));
     }
 
     /// Notes a search that gave a plan or none, with all sequences within its bounds.

@@ -41,7 +41,7 @@ fn call(text: Vec<u8>, turn: usize) -> Call {
         1 => Call::TableSize { rules: text, reach: 1 },
         2 => Call::BuildTable { rules: text, table_length: turn % 11, reach: 1 },
         3 => Call::CheckTable { rules: text, table: vec![255; turn % 11], reach: 1 },
-        4 => Call::Macro { rules: text, moves: vec![1], out_length: 34 },
+        4 => Call::Macro { rules: text, moves: vec![1], out_length: 38 },
         _ => {
             let query = Query { start: vec![0; turn % 4], goal: vec![255; turn % 4], max_moves: 2, max_cost: 9, step_limit: 99 };
             Call::Search { rules: text, table: vec![255; 4], reach: 1, query, plan_length: turn % 9 }

@@ -1,5 +1,6 @@
 //! The largest inputs, and numbers and lengths that are absurd: each combination against the oracle.
 
+use planner_tests::by_hand::{builds, macro_is, table, unions};
 use planner_tests::calls::{Call, Query};
 use planner_tests::compare::{check, compare, compare_in, Tally};
 use planner_tests::oracle::{expected, file, Judged};
@@ -87,6 +88,10 @@ fn absurd_numbers_compared() {
             compare_in(&Call::Macro { rules: rules.clone(), moves: vec![fill; length], out_length: length }, &mut judged, &mut tally);
         }
     }
+    for out_length in 0..80 {
+        let answer = compare_in(&Call::Macro { rules: rules.clone(), moves: vec![2, 1], out_length }, &mut judged, &mut tally);
+        assert_eq!(answer.outcome(), if out_length < 38 { 8 } else { 0 });
+    }
     assert!(tally.cases() > 8_000, "only {} cases", tally.cases());
 }
 
@@ -130,7 +135,7 @@ fn the_longest_file_compared() {
         assert_eq!(compare(&Call::TableSize { rules: text.clone(), reach }, &mut tally).size(), [0, 64, 1986, 61_568, 0][reach]);
     }
     for moves in [vec![1; 32], (1..=31).collect(), vec![31, 1, 30, 2]] {
-        compare(&Call::Macro { rules: text.clone(), moves, out_length: 34 }, &mut tally);
+        compare(&Call::Macro { rules: text.clone(), moves, out_length: 38 }, &mut tally);
     }
     compare(&Call::BuildTable { rules: text.clone(), table_length: 1986, reach: 2 }, &mut tally);
     let query = Query { start: (0..16).collect(), goal: vec![15; 16], max_moves: 2, max_cost: 65535, step_limit: 2000 };
@@ -147,7 +152,10 @@ fn the_largest_table_compared() {
     let rules = numbered().into_bytes();
     let set = file::read(&rules);
     let mut judged = Judged::new(&set);
-    let table = compare_in(&Call::BuildTable { rules: rules.clone(), table_length: 61_568, reach: 3 }, &mut judged, &mut tally).buffer;
+    let answer = compare_in(&Call::BuildTable { rules: rules.clone(), table_length: 61_568, reach: 3 }, &mut judged, &mut tally);
+    // every sequence of two or three rules is marked for its last rule, and has a constant at each of the five positions in place of its variable
+    assert_eq!(answer.number, unions(0, 0b11111));
+    let table = answer.buffer;
     for length in [61_566, 61_567, 61_568, 61_569] {
         let mut table = table.clone();
         table.resize(length, 255);
@@ -160,6 +168,33 @@ fn the_largest_table_compared() {
             compare_in(&Call::Search { rules: rules.clone(), table, reach: 3, query, plan_length: 3 }, &mut judged, &mut tally);
         }
     }
+}
+
+#[test]
+fn all_sixteen_positions() {
+    let own: Vec<String> = (1..=16).map(|j| format!("x{j}")).collect();
+    let rule = |condition: &str, effect: &str| format!("positions=16/sizes={}/rules=1/cost=1/if={condition}/then={effect}/", ["2"; 16].join(","));
+    let with = |place: usize, entry: &str| {
+        let mut line = own.clone();
+        line[place] = entry.to_string();
+        line.join(",")
+    };
+    let own = own.join(",");
+    let one = |condition: &str, effect: &str, reads: u16, writes: u16| macro_is(&rule(condition, effect), &[1], condition, effect, 1, reads, writes);
+    one(&own, &own, 0, 0);
+    one(&with(15, "0"), &with(15, "1"), 0x8000, 0x8000);
+    one(&with(0, "0"), &with(0, "1"), 0x0001, 0x0001);
+    one(&own, &with(15, "x1"), 0x0001, 0x8000);
+    one(&own, &with(0, "x16"), 0x8000, 0x0001);
+    one(&with(15, "x1"), &with(15, "x1"), 0x8001, 0);
+    one(&["0"; 16].join(","), &["1"; 16].join(","), 0xffff, 0xffff);
+    one(&own, &["1"; 16].join(","), 0, 0xffff);
+    one(&["x1"; 16].join(","), &["x1"; 16].join(","), 0xffff, 0);
+    // neighbours exchanged: twice is idle, three times is once again
+    let exchanged: Vec<String> = (1..=16).map(|j| format!("x{}", if j % 2 == 1 { j + 1 } else { j - 1 })).collect();
+    let exchange = rule(&own, &exchanged.join(","));
+    builds(&exchange, 2, table(3, &[(2, 0)]), unions(0, 0));
+    builds(&exchange, 3, table(4, &[(2, 0), (3, 1)]), unions(0xffff, 0xffff));
 }
 
 #[test]
@@ -177,6 +212,7 @@ fn steps_beyond_16_bits() {
 fn each_call_within_its_stack() {
     let (rules, longest) = (numbered().into_bytes(), longest().into_bytes());
     let all_kept = vec![255; 61_568];
+    let all_marked = expected(&Call::BuildTable { rules: rules.clone(), table_length: 61_568, reach: 3 }).buffer;
     let deep = Query { start: vec![0; 5], goal: vec![255, 255, 255, 255, 0], max_moves: 32, max_cost: 65535, step_limit: 5_000 };
     let far = Query { start: (0..16).collect(), goal: vec![15; 16], max_moves: 32, max_cost: 65535, step_limit: 5_000 };
     let calls = [
@@ -185,7 +221,8 @@ fn each_call_within_its_stack() {
         Call::TableSize { rules: longest.clone(), reach: 3 },
         Call::BuildTable { rules: rules.clone(), table_length: 61_568, reach: 3 },
         Call::CheckTable { rules: rules.clone(), table: all_kept.clone(), reach: 3 },
-        Call::Macro { rules: longest.clone(), moves: vec![31; 32], out_length: 34 },
+        Call::CheckTable { rules: rules.clone(), table: all_marked, reach: 3 },
+        Call::Macro { rules: longest.clone(), moves: vec![31; 32], out_length: 38 },
         Call::Search { rules, table: all_kept.clone(), reach: 3, query: deep, plan_length: 32 },
         Call::Search { rules: longest, table: all_kept, reach: 3, query: far, plan_length: 32 },
     ];

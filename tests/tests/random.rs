@@ -9,7 +9,8 @@ use planner_tests::library;
 use planner_tests::oracle::model::{Entry, Rule, Set};
 use planner_tests::oracle::search::{all_within, plan_by_states, steps_up_to, unpruned};
 use planner_tests::oracle::sequences::count;
-use planner_tests::oracle::table::{built, bytes};
+use planner_tests::oracle::table::{built, bytes, entries as entries_of};
+use planner_tests::oracle::touched::Touched;
 use planner_tests::oracle::{file, writer, Judged};
 use planner_tests::random::{seed, Random};
 use planner_tests::seen::Seen;
@@ -111,7 +112,7 @@ impl Run {
         for _ in 0..6 {
             let text = damage::damaged(&mut self.random, drawn.text);
             compare(&Call::Read { text: text.clone() }, &mut self.tally);
-            let length = self.random.pick(&[0, 1, 34, 400, text.len()]);
+            let length = self.random.pick(&[0, 1, 38, 400, text.len()]);
             let (rules, reach) = (text.clone(), self.random.from_to(0, 2));
             let call = match self.random.below(6) {
                 0 => Call::Rewrite { text, out_length: length },
@@ -137,10 +138,13 @@ impl Run {
                 let at = self.random.below(length);
                 moves[at] = self.random.pick(&[0, drawn.set.rules.len() as u8 + 1, 32, 255]);
             }
-            let out_length = self.random.pick(&[34, 34, 34, 33, 16, 1, 0, 35, 60]);
+            let out_length = self.random.pick(&[38, 38, 38, 37, 34, 16, 1, 0, 39, 60]);
             let call = Call::Macro { rules: drawn.text.to_vec(), moves: moves.clone(), out_length };
             let answer = compare_in(&call, judged, &mut self.tally);
-            if drawn.few_states && out_length >= 34 && [0, 17].contains(&answer.outcome()) {
+            if answer.outcome() == 0 {
+                self.seen.touched(touched_at(&answer.buffer));
+            }
+            if drawn.few_states && out_length >= 38 && [0, 17].contains(&answer.outcome()) {
                 self.seen.macros_run += 1;
                 runs_as_its_rules(drawn.set, &call, &moves);
             }
@@ -149,7 +153,8 @@ impl Run {
 
     fn build(&mut self, drawn: &Drawn, judged: &mut Judged, reach: usize) {
         let (rules, table_length) = (drawn.text.to_vec(), 2 * count(drawn.set.rules.len(), reach));
-        compare_in(&Call::BuildTable { rules: rules.clone(), table_length, reach }, judged, &mut self.tally);
+        let answer = compare_in(&Call::BuildTable { rules: rules.clone(), table_length, reach }, judged, &mut self.tally);
+        self.seen.unions(drawn.set, reach, judged.touched(reach), &entries_of(&answer.buffer), &answer);
         let wrong = self.random.pick(&[0, 1, table_length - 1, table_length + 1, table_length + 2, 2 * table_length]);
         compare_in(&Call::BuildTable { rules: rules.clone(), table_length: wrong, reach }, judged, &mut self.tally);
         let reach = self.random.pick(&ABSURD);
@@ -188,7 +193,10 @@ impl Run {
             4 => table = table.iter().map(|_| self.random.below(256) as u8).collect(),
             _ => {}
         }
-        compare_in(&Call::CheckTable { rules: drawn.text.to_vec(), table, reach }, judged, &mut self.tally);
+        let answer = compare_in(&Call::CheckTable { rules: drawn.text.to_vec(), table: table.clone(), reach }, judged, &mut self.tally);
+        if answer.outcome() == 0 {
+            self.seen.unions(drawn.set, reach, judged.touched(reach), &entries_of(&table), &answer);
+        }
     }
 
     fn search(&mut self, drawn: &Drawn, judged: &mut Judged, reach: usize, entries: &[u16]) {
@@ -275,7 +283,12 @@ impl Run {
     }
 }
 
-/// The library's macro, run in every state, against the rules in turn.
+/// The sets of a macro, as its buffer has them.
+fn touched_at(buffer: &[u8]) -> Touched {
+    Touched { reads: u16::from_le_bytes([buffer[34], buffer[35]]), writes: u16::from_le_bytes([buffer[36], buffer[37]]) }
+}
+
+/// The library's macro, run in every state, against the rules in turn; and its sets against what the rules do in every state.
 fn runs_as_its_rules(set: &Set, call: &Call, moves: &[u8]) {
     let answer = library::answer(call);
     let positions = set.sizes.len();
@@ -288,4 +301,6 @@ fn runs_as_its_rules(set: &Set, call: &Call, moves: &[u8]) {
         assert!(whole == set.run(moves, &state), "the macro differs from its rules in {state:?}:\n{call}\n{answer}");
     }
     assert!(answer.outcome() == 17 || rule.cost == set.cost(moves), "the macro's cost differs from its rules':\n{call}\n{answer}");
+    let touched = touched_at(&answer.buffer);
+    assert!(touched == Touched::by_states(set, moves), "the macro's sets differ from what its rules do, {touched:?}:\n{call}\n{answer}");
 }

@@ -1,52 +1,10 @@
 //! Document 01's worked cases, its Edges, and examples of the source documents, with their answers as the documents give them. Library and oracle have to give just these.
 
-use planner_tests::calls::{Answer, Call, Query};
-use planner_tests::compare::check;
-use planner_tests::oracle::expected;
-use planner_tests::oracle::table::{bytes, entries, KEPT};
+use planner_tests::by_hand::{builds, built, checks, file, gives, macro_is, macro_refused, table, unions, E, H};
+use planner_tests::calls::{Call, Query};
+use planner_tests::oracle::table::{entries, KEPT};
 
-/// Rule files; a stroke stands for a line feed.
-const E: &str = "positions=2/sizes=2,2/rules=2/cost=1/if=x1,x2/then=0,x2/cost=1/if=x1,x2/then=x1,0/";
-const H: &str =
-    "positions=3/sizes=4,4,4/rules=4/cost=1/if=0,x2,x2/then=1,0,x2/cost=1/if=1,x2,0/then=2,0,0/cost=1/if=1,x2,x3/then=2,x3,x2/cost=1/if=2,0,0/then=3,1,1/";
 const P11: &str = "positions=3/sizes=3,3,3/rules=2/cost=1/if=x1,x2,x3/then=x1,x1,x3/cost=1/if=x1,x2,x2/then=0,x2,x2/";
-
-fn file(shown: &str) -> Vec<u8> {
-    shown.replace('/', "\n").into_bytes()
-}
-
-/// Library and oracle both give this.
-fn gives(call: &Call, number: u64, buffer: Vec<u8>) {
-    let answer = Answer { number, buffer };
-    assert_eq!(expected(call), answer, "the oracle, of\n{call}");
-    check(call, &answer);
-}
-
-/// The entries of a line, as a file has them, in sixteen bytes of a macro.
-fn line(shown: &str) -> Vec<u8> {
-    let number = |text: &str| text.parse::<u8>().expect("a number");
-    let mut bytes: Vec<u8> = shown.split(',').map(|entry| entry.strip_prefix('x').map_or_else(|| number(entry), |j| 15 + number(j))).collect();
-    bytes.resize(16, 0);
-    bytes
-}
-
-fn macro_is(rules: &str, moves: &[u8], condition: &str, effect: &str, cost: u16) {
-    let whole = [line(condition), line(effect), cost.to_le_bytes().to_vec()].concat();
-    for out_length in [34, 35, 50] {
-        let mut buffer = whole.clone();
-        buffer.resize(out_length, 0);
-        gives(&Call::Macro { rules: file(rules), moves: moves.to_vec(), out_length }, 0, buffer);
-    }
-    for out_length in [0, 1, 16, 33] {
-        gives(&Call::Macro { rules: file(rules), moves: moves.to_vec(), out_length }, 8, vec![0; out_length]);
-    }
-}
-
-fn macro_refused(rules: &str, moves: &[u8], outcome: u64) {
-    for out_length in [34, 0, 33, 40] {
-        gives(&Call::Macro { rules: file(rules), moves: moves.to_vec(), out_length }, outcome, vec![0; out_length]);
-    }
-}
 
 fn reads(shown: &str, outcome: u64) {
     let text = file(shown);
@@ -56,34 +14,6 @@ fn reads(shown: &str, outcome: u64) {
     } else {
         gives(&Call::Rewrite { text: text.clone(), out_length: text.len() }, outcome, vec![0; text.len()]);
     }
-}
-
-/// The table with these marks, index and witness, of so many entries.
-fn table(count: usize, marks: &[(usize, u16)]) -> Vec<u8> {
-    let mut entries = vec![KEPT; count];
-    for &(index, witness) in marks {
-        entries[index] = witness;
-    }
-    bytes(&entries)
-}
-
-fn checks(rules: &str, reach: usize, table: Vec<u8>, outcome: u64) {
-    gives(&Call::CheckTable { rules: file(rules), table, reach }, outcome, vec![]);
-}
-
-fn builds(rules: &str, reach: usize, table: Vec<u8>) {
-    let size = table.len();
-    gives(&Call::TableSize { rules: file(rules), reach }, (size as u64) << 8, vec![]);
-    gives(&Call::BuildTable { rules: file(rules), table_length: size, reach }, 0, table.clone());
-    checks(rules, reach, table, 0);
-}
-
-/// The built table, by the oracle; the library's is compared in passing.
-fn built(rules: &str, reach: usize) -> Vec<u8> {
-    let size = expected(&Call::TableSize { rules: file(rules), reach }).size();
-    let table = expected(&Call::BuildTable { rules: file(rules), table_length: size, reach }).buffer;
-    builds(rules, reach, table.clone());
-    table
 }
 
 struct Asked<'a> {
@@ -113,7 +43,8 @@ impl Asked<'_> {
 fn p1_to_p5_and_the_listing_of_e() {
     // drop=1,1 for=1; drop=2,1 for=1,2; drop=2,2 for=2
     let table = table(7, &[(3, 1), (5, 4), (6, 2)]);
-    builds(E, 2, table.clone());
+    // reads= moves=1; reads= moves=1,2; reads= moves=2
+    builds(E, 2, table.clone(), unions(0, 0b11));
     let p1 = Asked { rules: E, table: &table, start: &[1, 1], goal: &[0, 0], moves: 2, cost: 9, limit: 4 };
     p1.gives(0, &[1, 2], 2, 4);
     Asked { limit: 3, ..p1 }.gives(16, &[], 0, 3);
@@ -125,15 +56,16 @@ fn p1_to_p5_and_the_listing_of_e() {
 
 #[test]
 fn p6_p7_and_p11() {
-    macro_is(H, &[1, 2], "0,0,0", "2,0,0", 2);
-    macro_is(H, &[1, 3], "0,x2,x2", "2,x2,0", 2);
-    macro_is(P11, &[1, 2], "x1,x2,x1", "0,x1,x1", 2);
-    macro_is(H, &[], "x1,x2,x3", "x1,x2,x3", 0);
+    macro_is(H, &[1, 2], "0,0,0", "2,0,0", 2, 0b111, 0b001);
+    macro_is(H, &[1, 3], "0,x2,x2", "2,x2,0", 2, 0b111, 0b101);
+    macro_is(P11, &[1, 2], "x1,x2,x1", "0,x1,x1", 2, 0b101, 0b011);
+    macro_is(H, &[], "x1,x2,x3", "x1,x2,x3", 0, 0, 0);
 }
 
 #[test]
 fn p8_p9_and_p10() {
-    let table_of_h = built(H, 2);
+    // (3,4) is `1,0,0` to `3,1,1`, and every other mark is on a sequence that no state admits
+    let table_of_h = built(H, 2, unions(0b111, 0b111));
     assert_eq!((entries(&table_of_h)[6], entries(&table_of_h)[16]), (KEPT, 12));
     let p9 = Asked { rules: H, table: &table_of_h, start: &[0, 0, 0], goal: &[3, 1, 1], moves: 3, cost: 9, limit: 5 };
     p9.gives(0, &[1, 2, 4], 3, 5);
@@ -196,10 +128,10 @@ fn faults_of_a_file_in_text_order() {
 fn composition() {
     // source 003's case 2(b) as printed would lose the condition
     let swap = "positions=2/sizes=3,3/rules=2/cost=1/if=x1,x2/then=x2,x1/cost=2/if=x1,x1/then=0,x1/";
-    macro_is(swap, &[1, 2], "x1,x1", "0,x1", 3);
-    macro_is(swap, &[2, 1], "x1,x1", "x1,0", 3);
-    macro_is(swap, &[2, 2], "0,0", "0,0", 4);
-    macro_is(swap, &[1, 1], "x1,x2", "x1,x2", 2);
+    macro_is(swap, &[1, 2], "x1,x1", "0,x1", 3, 0b11, 0b01);
+    macro_is(swap, &[2, 1], "x1,x1", "x1,0", 3, 0b11, 0b10);
+    macro_is(swap, &[2, 2], "0,0", "0,0", 4, 0b11, 0);
+    macro_is(swap, &[1, 1], "x1,x2", "x1,x2", 2, 0, 0);
     // the effects as they stood before a variable was replaced would miss that 0 and 1 are asked of one value
     macro_refused("positions=3/sizes=4,4,4/rules=1/cost=1/if=0,1,x3/then=x3,x3,3/", &[1, 1], 17);
     macro_refused(H, &[1, 1], 17);
@@ -208,7 +140,7 @@ fn composition() {
     macro_refused(H, &[0], 13);
     macro_refused(H, &[255; 33], 11);
     macro_refused(H, &[1; 32], 17);
-    macro_is("positions=1/sizes=2/rules=1/cost=255/if=x1/then=0/", &[1; 32], "x1", "0", 8160);
+    macro_is("positions=1/sizes=2/rules=1/cost=255/if=x1/then=0/", &[1; 32], "x1", "0", 8160, 0, 1);
     macro_refused("positions=1/sizes=2/rules=1/cost=255/if=x1/then=0/", &[1; 33], 11);
 }
 
@@ -234,14 +166,15 @@ fn source_003_arrows() {
     };
     let rules: String = (0..12u8).map(|k| flip(k as usize / 4, k / 2 % 2, k % 2)).collect();
     let arrows = format!("positions=4/sizes=2,2,2,2/rules=12/{rules}");
-    macro_is(&arrows, &[1, 8], "0,0,1,x4", "1,0,0,x4", 2);
-    macro_is(&arrows, &[2], "0,1,x3,x4", "1,0,x3,x4", 1);
-    macro_is(&arrows, &[3], "1,0,x3,x4", "0,1,x3,x4", 1);
+    macro_is(&arrows, &[1, 8], "0,0,1,x4", "1,0,0,x4", 2, 0b0111, 0b0101);
+    macro_is(&arrows, &[2], "0,1,x3,x4", "1,0,x3,x4", 1, 0b0011, 0b0011);
+    macro_is(&arrows, &[3], "1,0,x3,x4", "0,1,x3,x4", 1, 0b0011, 0b0011);
     // source 002's example: R1-00, R2-10 and R2-00, R1-01 do the same
-    macro_is(&arrows, &[1, 7], "0,0,0,x4", "1,0,1,x4", 2);
-    macro_is(&arrows, &[5, 2], "0,0,0,x4", "1,0,1,x4", 2);
+    macro_is(&arrows, &[1, 7], "0,0,0,x4", "1,0,1,x4", 2, 0b0111, 0b0101);
+    macro_is(&arrows, &[5, 2], "0,0,0,x4", "1,0,1,x4", 2, 0b0111, 0b0101);
     // each set of the three flips is visited once, whatever the moves
-    let table = built(&arrows, 2);
+    // R3-00, R1-00 is marked for R1-00, R3-00: `0,0,0,0` to `1,1,1,1`
+    let table = built(&arrows, 2, unions(0b1111, 0b1111));
     let asked = Asked { rules: &arrows, table: &table, start: &[0, 0, 0, 0], goal: &[1, 0, 0, 1], moves: 20, cost: 99, limit: 8 };
     asked.gives(0, &[1, 7, 11], 3, 8);
     Asked { limit: 7, ..asked }.gives(16, &[], 0, 7);
@@ -250,41 +183,41 @@ fn source_003_arrows() {
 
 #[test]
 fn source_003_figure_1() {
-    // as numbered R3(R1) is redundant with the later R3(R2), and kept; with R1 and R2 exchanged it is marked
+    // as numbered R3(R1) is redundant with the later R3(R2), and kept; with R1 and R2 exchanged it is marked, `0,0,0,0` to `1,1,0,1`. The other marks no state admits
     let rules = |one: &str, two: &str| {
         format!("positions=4/sizes=2,2,2,2/rules=3/cost=1/if=x1,x2,0,0/then={one}/cost=1/if=x1,x2,0,0/then={two}/cost=1/if=0,0,1,0/then=1,1,0,1/")
     };
     let numbered = rules("x2,x1,1,0", "x1,x1,1,0");
-    assert_eq!(entries(&built(&numbered, 2))[6..10], [KEPT, 0, 0, KEPT]);
+    assert_eq!(entries(&built(&numbered, 2, unions(0, 0)))[6..10], [KEPT, 0, 0, KEPT]);
     checks(&numbered, 2, table(13, &[(6, 9)]), 14);
     let exchanged = rules("x1,x1,1,0", "x2,x1,1,0");
-    assert_eq!(entries(&built(&exchanged, 2))[6..10], [KEPT, 0, 0, 6]);
+    assert_eq!(entries(&built(&exchanged, 2, unions(0b1111, 0b1011)))[6..10], [KEPT, 0, 0, 6]);
 }
 
 #[test]
 fn marks() {
     // a mark on a sequence that no state admits needs a witness that costs no more; such a sequence is a witness of its like only
     let steps = "positions=1/sizes=3/rules=2/cost=5/if=0/then=1/cost=1/if=0/then=2/";
-    builds(steps, 2, table(7, &[(3, 0), (4, 0), (5, 0), (6, 0)]));
+    builds(steps, 2, table(7, &[(3, 0), (4, 0), (5, 0), (6, 0)]), unions(0, 0));
     checks(steps, 2, table(7, &[(6, 1)]), 14);
-    checks(steps, 2, table(7, &[(6, 2)]), 0);
+    checks(steps, 2, table(7, &[(6, 2)]), unions(0, 0));
     checks(steps, 2, table(7, &[(4, 3)]), 14);
-    checks(steps, 2, table(7, &[(5, 4)]), 0);
-    checks(steps, 2, table(7, &[(5, 1), (4, 2)]), 0);
+    checks(steps, 2, table(7, &[(5, 4)]), unions(0, 0));
+    checks(steps, 2, table(7, &[(5, 1), (4, 2)]), unions(0, 0));
     // a dearer earlier rule is no witness, a cheaper later one neither
     let dear = "positions=1/sizes=2/rules=2/cost=2/if=1/then=0/cost=1/if=x1/then=0/";
-    builds(dear, 1, table(3, &[]));
+    builds(dear, 1, table(3, &[]), unions(0, 0));
     checks(dear, 1, table(3, &[(1, 2)]), 14);
     // a swap is not idle, though some states hold equal values; twice it is, whatever it costs
     let swap = "positions=2/sizes=2,2/rules=1/cost=9/if=x1,x2/then=x2,x1/";
-    builds(swap, 3, table(4, &[(2, 0), (3, 1)]));
+    builds(swap, 3, table(4, &[(2, 0), (3, 1)]), unions(0b11, 0b11));
     checks(swap, 1, table(2, &[(1, 0)]), 14);
     // entry 0, itself, later ones, indices that are none
     for (index, witness) in [(0, 0), (0, 65534), (3, 3), (4, 5), (5, 7), (5, 260), (5, 65534)] {
         checks(E, 2, table(7, &[(index, witness)]), 14);
     }
     checks(E, 2, table(7, &[(4, 5), (5, 4)]), 14);
-    checks(E, 2, table(7, &[]), 0);
+    checks(E, 2, table(7, &[]), unions(0, 0));
     checks(E, 2, vec![0; 14], 14);
 }
 

@@ -1,0 +1,87 @@
+//! Answers written by hand, from the documents: library and oracle have to give just these, the whole number and the whole buffer.
+
+use crate::calls::{Answer, Call};
+use crate::compare::check;
+use crate::oracle::expected;
+use crate::oracle::table::{bytes, KEPT};
+
+/// Document 01's yards E and H. In the rule files here a stroke stands for a line feed.
+pub const E: &str = "positions=2/sizes=2,2/rules=2/cost=1/if=x1,x2/then=0,x2/cost=1/if=x1,x2/then=x1,0/";
+pub const H: &str =
+    "positions=3/sizes=4,4,4/rules=4/cost=1/if=0,x2,x2/then=1,0,x2/cost=1/if=1,x2,0/then=2,0,0/cost=1/if=1,x2,x3/then=2,x3,x2/cost=1/if=2,0,0/then=3,1,1/";
+
+/// The rule file.
+pub fn file(shown: &str) -> Vec<u8> {
+    shown.replace('/', "\n").into_bytes()
+}
+
+/// Library and oracle both give this.
+pub fn gives(call: &Call, number: u64, buffer: Vec<u8>) {
+    let answer = Answer { number, buffer };
+    assert_eq!(expected(call), answer, "the oracle, of\n{call}");
+    check(call, &answer);
+}
+
+/// The entries of a line, as a file has them, in sixteen bytes of a macro.
+fn line(shown: &str) -> Vec<u8> {
+    let number = |text: &str| text.parse::<u8>().expect("a number");
+    let mut bytes: Vec<u8> = shown.split(',').map(|entry| entry.strip_prefix('x').map_or_else(|| number(entry), |j| 15 + number(j))).collect();
+    bytes.resize(16, 0);
+    bytes
+}
+
+/// The macro of a sequence, with the positions that it reads and writes, the lowest bit for position 1.
+pub fn macro_is(rules: &str, moves: &[u8], condition: &str, effect: &str, cost: u16, reads: u16, writes: u16) {
+    let numbers = [cost, reads, writes].map(u16::to_le_bytes).concat();
+    let whole = [line(condition), line(effect), numbers].concat();
+    for out_length in [38, 39, 50] {
+        let mut buffer = whole.clone();
+        buffer.resize(out_length, 0);
+        gives(&Call::Macro { rules: file(rules), moves: moves.to_vec(), out_length }, 0, buffer);
+    }
+    for out_length in [0, 1, 16, 34, 37] {
+        gives(&Call::Macro { rules: file(rules), moves: moves.to_vec(), out_length }, 8, vec![0; out_length]);
+    }
+}
+
+/// A refused macro is zeros throughout, both sets included.
+pub fn macro_refused(rules: &str, moves: &[u8], outcome: u64) {
+    for out_length in [38, 0, 34, 37, 44] {
+        gives(&Call::Macro { rules: file(rules), moves: moves.to_vec(), out_length }, outcome, vec![0; out_length]);
+    }
+}
+
+/// The table with these marks, index and witness, of so many entries.
+pub fn table(count: usize, marks: &[(usize, u16)]) -> Vec<u8> {
+    let mut entries = vec![KEPT; count];
+    for &(index, witness) in marks {
+        entries[index] = witness;
+    }
+    bytes(&entries)
+}
+
+/// What a call on a table gives that is not refused: outcome 0, both unions, the lowest bit of each for position 1, and no other bit.
+pub fn unions(reads: u16, writes: u16) -> u64 {
+    u64::from(reads) << 16 | u64::from(writes) << 32
+}
+
+/// The check gives this: an outcome alone, or both unions.
+pub fn checks(rules: &str, reach: usize, table: Vec<u8>, number: u64) {
+    gives(&Call::CheckTable { rules: file(rules), table, reach }, number, vec![]);
+}
+
+/// The builder makes this table and gives these unions, and so does the check of it.
+pub fn builds(rules: &str, reach: usize, table: Vec<u8>, unions: u64) {
+    let size = table.len();
+    gives(&Call::TableSize { rules: file(rules), reach }, (size as u64) << 8, vec![]);
+    gives(&Call::BuildTable { rules: file(rules), table_length: size, reach }, unions, table.clone());
+    checks(rules, reach, table, unions);
+}
+
+/// The built table, by the oracle; the library's is compared in passing, and both unions are these.
+pub fn built(rules: &str, reach: usize, unions: u64) -> Vec<u8> {
+    let size = expected(&Call::TableSize { rules: file(rules), reach }).size();
+    let table = expected(&Call::BuildTable { rules: file(rules), table_length: size, reach }).buffer;
+    builds(rules, reach, table.clone(), unions);
+    table
+}
