@@ -50,6 +50,8 @@ pub struct Seen {
     pub unions_unlike_witnesses: u64,
     pub unions_empty: u64,
     pub unions_denied: u64,
+    /// tables that are not accepted, with a mark on a sequence that reads or writes
+    pub unions_withheld: u64,
 }
 
 impl Seen {
@@ -97,6 +99,11 @@ impl Seen {
         self.unions_empty += u64::from(unions == Touched::default());
         let sequences = sequences(set.rules.len(), reach);
         self.unions_denied += u64::from(marks.iter().all(|&index| Run::of(set, &sequences[index]).is_none()));
+    }
+
+    /// Notes a table that was not accepted.
+    pub fn withheld(&mut self, touched: &[Touched], entries: &[u16]) {
+        self.unions_withheld += u64::from(marked(entries).any(|index| touched[index] != Touched::default()));
     }
 
     /// Notes a search that gave a plan or none, with all sequences within its bounds.

@@ -194,8 +194,10 @@ impl Run {
             _ => {}
         }
         let answer = compare_in(&Call::CheckTable { rules: drawn.text.to_vec(), table: table.clone(), reach }, judged, &mut self.tally);
-        if answer.outcome() == 0 {
-            self.seen.unions(drawn.set, reach, judged.touched(reach), &entries_of(&table), &answer);
+        match answer.outcome() {
+            0 => self.seen.unions(drawn.set, reach, judged.touched(reach), &entries_of(&table), &answer),
+            14 => self.seen.withheld(judged.touched(reach), &entries_of(&table)),
+            _ => {}
         }
     }
 
