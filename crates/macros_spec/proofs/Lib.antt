@@ -12,6 +12,7 @@ pub mod ExtensionLaws
 pub mod FormLaws
 pub mod ChangeLaws
 pub mod SequenceTouchLaws
+pub mod DependLaws
 pub mod MacroLaws
 pub mod MeaningLaws
 pub mod MoveLaws

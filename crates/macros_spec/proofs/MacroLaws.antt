@@ -22,7 +22,8 @@ use Rattle.model_spec.proofs.StateLaws.{width-beyond}
 use Rattle.model_spec.proofs.ValidityLaws.{valid-iff, valid-cost}
 use Rattle.macros_spec.specs.Composition.{ownVariables, emptyLines, composedFrom, composed}
 use Rattle.macros_spec.specs.Touched.{untouched, TouchMeaning}
-use Rattle.macros_spec.specs.Answers.{blankMacro, macroAnswer, Means, Changes, Denied, Admitted, Judged, Meaning}
+use Rattle.macros_spec.specs.Answers.{blankMacro, macroAnswer, Means, Depends, Changes, Denied, Admitted}
+use Rattle.macros_spec.specs.Answers.{Judged, Meaning}
 use Rattle.macros_spec.specs.declared.Macro.{Macro}
 use Rattle.macros_spec.specs.declared.MacroAnswer.{MacroAnswer}
 use Rattle.macros_spec.specs.declared.Touched.{Touched}
@@ -30,6 +31,7 @@ use Rattle.macros_spec.proofs.CanonicalForm.{Fitting}
 use Rattle.macros_spec.proofs.MeaningLaws.{means-canonical, means-admitted, composed-means, denied-iff}
 use Rattle.macros_spec.proofs.UniqueLaws.{means-unique}
 use Rattle.macros_spec.proofs.TouchedLaws.{touched-meaning, touched-unique}
+use Rattle.macros_spec.proofs.DependLaws.{depends-iff}
 use Rattle.macros_spec.proofs.ChangeLaws.{writes-iff, empty-untouched}
 use Rattle.macros_spec.proofs.AnswerLaws.{Answered, invalid, long, unknown, denied, given, answered}
 use Rattle.macros_spec.proofs.AnswerLaws.{answer-given}
@@ -132,6 +134,14 @@ module _ (set : RuleSet) (moves : Sequence) where
       go (denied j e) z = absurd (omega arith)
       go (given j m e) z = touched-meaning set m (sequenceCost set moves)
 
+  -- those read are those on which the sequence depends
+  macro-depends : macroAnswer set moves .outcome ≡ 0 → (i : ℕ) → i < 16
+      → (has (macroAnswer set moves .touched .reads) i ≡ true) ↔ Depends set moves i
+  macro-depends z i h =
+      let read = macro-touches z .reads i h in
+      let depends = depends-iff set (macro-given-iff .0 z .0 .0 .formed) moves _ (macro-means z) i h in
+      (λ t. depends .0 (read .0 t), λ d. read .1 (depends .1 d))
+
   -- those written are those that some state changes
   macro-changes : macroAnswer set moves .outcome ≡ 0 → (i : ℕ) → i < 16
       → (has (macroAnswer set moves .touched .writes) i ≡ true) ↔ Changes set moves i
@@ -201,6 +211,7 @@ module _ (set : RuleSet) (moves : Sequence) where
     means = macro-means;
     bounded = cost-bound;
     touches = macro-touches;
+    depends = macro-depends;
     changes = macro-changes;
     refused = macro-refused;
   }

@@ -12,7 +12,7 @@ use lib.Dec.{ltb, eqb}
 use lib.ListN.{getD}
 use borrow.Author.Tests.{ltb-true, ltb-false, lt-ltb, le-ltb}
 use Rattle.theory_spec.specs.Sets.{has, setOf}
-use Rattle.theory_spec.proofs.ListLaws.{or-split, or-left, or-right, same-test}
+use Rattle.theory_spec.proofs.ListLaws.{passes?, not-both, or-split, or-left, or-right, same-test}
 use Rattle.theory_spec.proofs.TestLaws.{below?, equal?, ltb-iff, eqb-iff, not-iff, and-iff, any-below-iff}
 use Rattle.theory_spec.proofs.SetLaws.{setOf-below, has-setOf, set-of, sets-equal}
 use Rattle.model_spec.specs.States.{isConstant, width}
@@ -114,6 +114,13 @@ touched-meaning set m cost = record {
           λ e. let v = w .0 e in (v .0, ⊎-elim (λ o. ⊎-elim inl (λ a. inr (inl a)) o) (λ o. inr (inr o)) (v .1)),
           λ v. w .1 (v .0, ⊎-elim (λ c. inl (inl c)) (λ o. ⊎-elim (λ a. inl (inr a)) inr o) (v .1)),
         )
+
+-- a position is read or not
+pub reads? : (set : RuleSet) (m : Macro) (i : ℕ) → i < 16 → Reads set m i ⊎ (Reads set m i → ⊥)
+reads? set m i h =
+    let lines : Lines = record { condition = m .condition; effect = m .effect } in
+    let tells = touched-meaning set lines (m .cost) .reads i h in
+    ⊎-elim (λ e. inl (tells .0 e)) (λ e. inr (λ r. not-both (tells .1 r) e)) (passes? (has (touchedBy set lines .reads) i))
 
 -- two sets that tell the same are the same
 pub touched-unique : (set : RuleSet) (m : Macro) (t u : Touched) → TouchMeaning set m t → TouchMeaning set m u → t ≡ u

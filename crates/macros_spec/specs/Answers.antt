@@ -1,6 +1,6 @@
 -- What the macro call answers.
 use mathlib.Core.Path.{_≡_}
-use mathlib.Core.Logic.{_↔_, _≢_}
+use mathlib.Core.Logic.{_⊎_, _↔_, _≢_}
 use mathlib.Core.Bool.{true, not, cond}
 use mathlib.Core.Option.{Option, some, none}
 use mathlib.Core.List.{List, [], _∷_}
@@ -83,10 +83,23 @@ SequenceReads set q i = (m : Macro) × Means set q m × Reads set m i
 abbrev pub SequenceWrites : RuleSet → Sequence → ℕ → Type 0
 SequenceWrites set q i = (m : Macro) × Means set q m × Writes set m i
 
--- some state that admits the sequence holds another value there afterwards
+-- some state that admits the sequence is led to one with another value at position i + 1
 abbrev pub Changes : RuleSet → Sequence → ℕ → Type 0
 Changes set q i =
     (s : State) × (t : State) × StateOf set s × (runIn set q s ≡ some t) × (getD t i 0 ≢ getD s i 0)
+
+-- the sequence depends on position i + 1: of two states that differ there alone one admits it, and the other does not,
+-- or is led to another value elsewhere
+pub record Depends (set : RuleSet) (q : Sequence) (i : ℕ) : Type 0 where
+  pub state : State
+  pub other : State
+  pub isState : StateOf set state
+  pub isOther : StateOf set other
+  pub alike : (k : ℕ) → k ≢ i → getD state k 0 ≡ getD other k 0
+  pub end : State
+  pub runs : runIn set q state ≡ some end
+  pub differs : (runIn set q other ≡ none)
+      ⊎ ((t : State) × (k : ℕ) × (runIn set q other ≡ some t) × (k < placeCount) × (k ≢ i) × (getD end k 0 ≢ getD t k 0))
 
 -- no state admits the sequence
 abbrev pub Denied : RuleSet → Sequence → Type 0
@@ -102,8 +115,8 @@ abbrev pub Judged : RuleSet → Sequence → Type 0
 Judged set moves = Valid set × ((length moves ≤ moveLimit) × Numbered (set .count) moves)
 
 -- what an answer tells: each number exactly if its cause holds and none before it does, 0 exactly if none holds; what
--- the macro means; what it costs at most; which positions it reads and writes, and that those written are those that
--- it changes in some state; and what a refusal leaves
+-- the macro means; what it costs at most; which positions it reads and writes: those on which the sequence depends, and
+-- those that it changes in some state; and what a refusal leaves
 pub record Meaning (set : RuleSet) (moves : Sequence) (answer : MacroAnswer) : Type 0 where
   pub notValid : (answer .outcome ≡ 7) ↔ (Valid set → ⊥)
   pub tooLong : (answer .outcome ≡ 11) ↔ (Valid set × (moveLimit < length moves))
@@ -114,6 +127,8 @@ pub record Meaning (set : RuleSet) (moves : Sequence) (answer : MacroAnswer) : T
   pub means : answer .outcome ≡ 0 → Means set moves (answer .result)
   pub bounded : answer .result .cost ≤ 8160
   pub touches : answer .outcome ≡ 0 → TouchMeaning set (answer .result) (answer .touched)
+  pub depends : answer .outcome ≡ 0 → (i : ℕ) → i < placeCount
+      → (has (answer .touched .reads) i ≡ true) ↔ Depends set moves i
   pub changes : answer .outcome ≡ 0 → (i : ℕ) → i < placeCount
       → (has (answer .touched .writes) i ≡ true) ↔ Changes set moves i
   pub refused : answer .outcome ≢ 0 → (answer .result ≡ blankMacro) × (answer .touched ≡ untouched)

@@ -17,7 +17,7 @@ use Rattle.macros_spec.specs.Composition.{Lines}
 use Rattle.macros_spec.specs.declared.Macro.{Macro}
 use Rattle.macros_spec.specs.declared.Touched.{Touched}
 
--- an entry names position i + 1: it is that position's variable
+-- an entry names position i + 1: it is that position's variable, as `valueOf` reads it
 abbrev pub names : ℕ → ℕ → Bool
 names e i = not (isConstant e) && eqb (e % placeCount) i
 
@@ -62,13 +62,15 @@ touchedOf set (some m) = touchedBy set m
 abbrev pub ManyValued : RuleSet → ℕ → Type 0
 ManyValued set i = 2 ≤ width (set .positions) (set .sizes) i
 
--- an entry is a constant; names position i + 1; names another position
+-- an entry is a constant
 abbrev pub Constant : ℕ → Type 0
 Constant e = e < firstVariable
 
+-- it names position i + 1
 abbrev pub Names : ℕ → ℕ → Type 0
 Names e i = (firstVariable ≤ e) × (e % placeCount ≡ i)
 
+-- it names another position
 abbrev pub NamesAnother : ℕ → ℕ → Type 0
 NamesAnother e i = (firstVariable ≤ e) × (e % placeCount ≢ i)
 
@@ -76,7 +78,7 @@ NamesAnother e i = (firstVariable ≤ e) × (e % placeCount ≢ i)
 abbrev pub NamedElsewhere : List ℕ → ℕ → Type 0
 NamedElsewhere line i = (k : ℕ) × (k < placeCount) × (k ≢ i) × Names (getD line k 0) i
 
--- "positions whose `if` entry is a constant or names another position, or that another position's `if` or `then` entry
+-- document 02: "positions whose `if` entry is a constant or names another position, or that another position's `if` or `then` entry
 -- names"
 abbrev pub Reads : RuleSet → Macro → ℕ → Type 0
 Reads set m i =
@@ -86,7 +88,7 @@ Reads set m i =
     ⊎ (NamedElsewhere (m .condition) i
     ⊎ NamedElsewhere (m .effect) i)))
 
--- "positions whose `then` entry differs from their `if` entry"
+-- document 02: "positions whose `then` entry differs from their `if` entry"
 abbrev pub Writes : RuleSet → Macro → ℕ → Type 0
 Writes set m i = ManyValued set i × (getD (m .effect) i 0 ≢ getD (m .condition) i 0)
 

@@ -6,9 +6,9 @@ use Rattle.unions_spec.specs.declared.TableAnswer.{TableAnswer}
 unfoldable pub packedTable : TableAnswer → ℕ
 packedTable answer = answer .outcome + 65536 * answer .touched .reads + 4294967296 * answer .touched .writes
 
--- the answer that such a number stands for: its parts again
+-- the answer that such a number stands for: its parts again, with every digit of the number in one of them
 unfoldable pub unpackedTable : ℕ → TableAnswer
 unpackedTable n = record {
-  outcome = n % 256;
-  touched = record { reads = n / 65536 % 65536; writes = n / 4294967296 % 65536 };
+  outcome = n % 65536;
+  touched = record { reads = n / 65536 % 65536; writes = n / 4294967296 };
 }

@@ -40,8 +40,8 @@ textCheckAnswer text reach table = ofText text (λ set. checkAnswer set reach ta
 
 -- ── What they mean ───────────────────────────────────────────────────────────────────────────────
 
--- 1 to 4 are the text's faults. Of a refused text its own refusal, and no length, no positions, zeros; of any other
--- what the call on its set means. No entry gives 7: a set that was read is valid.
+-- 1 to 4 are the text's faults. Of a refused text its own refusal, and no length, no positions, a table of zeros; of
+-- any other what the call on its set means. No entry gives 7: a set that was read is valid.
 
 pub record TextSizeMeaning (text : List ℕ) (reach : ℕ) (answer : TableSize) : Type 0 where
   pub judged : TextJudged text (answer .outcome)

@@ -1,5 +1,5 @@
--- Sets of small numbers as numbers: k is a member of the set m if the binary digit k of m, the lowest counted as 0, is
--- set.
+-- Sets of small numbers as numbers: k is a member of the set m if the binary digit k of m is 1. The lowest digit is
+-- digit 0.
 use mathlib.Core.Bool.{Bool, cond}
 use Prim.Native.Nat.{ℕ, zero, suc, _+_, _/_, _%_, _^_}
 use lib.Dec.{eqb}

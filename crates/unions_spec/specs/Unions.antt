@@ -43,7 +43,7 @@ answerWith set reach table outcome = record {
   touched = cond (eqb outcome 0) (tableTouched set reach table) untouched;
 }
 
--- the builder's answer for a table of `size` bytes: of the table that it leaves
+-- the builder's answer for a table of `size` bytes: of the built table
 unfoldable pub buildAnswer : RuleSet → ℕ → ℕ → TableAnswer
 buildAnswer set reach size = answerWith set reach (builtTable set reach) (buildOutcome set reach size)
 

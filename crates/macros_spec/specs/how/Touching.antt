@@ -1,5 +1,5 @@
--- The two sets of a sequence as the code makes them: among the positions of a set that is given. No promise of a call
--- needs this file: the law `touched-within` equates it with `touchedOf`.
+-- The two sets of a sequence as the code makes them, among positions that it is told. No promise of a call needs this
+-- file: the law `touched-within` equates it with `touchedOf`.
 use mathlib.Core.Bool.{_&&_}
 use mathlib.Core.Option.{Option, some, none}
 use Prim.Native.Nat.{ℕ}

@@ -9,7 +9,7 @@ use Rattle.macros_spec.specs.Answers.{touchedIn}
 use Rattle.macros_spec.specs.declared.Touched.{Touched}
 use Rattle.tables_spec.specs.Table.{sequenceAt}
 
--- what is in one of two sets
+-- what is in either
 unfoldable pub united : Touched → Touched → Touched
 united a b = record { reads = bitOr (a .reads) (b .reads); writes = bitOr (a .writes) (b .writes) }
 
