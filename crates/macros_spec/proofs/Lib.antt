@@ -1,4 +1,5 @@
 pub mod TouchedLaws
+pub mod TouchedLoopLaws
 pub mod AnswerLaws
 pub mod CanonicalForm
 pub mod CompositionLaws
