@@ -3,6 +3,7 @@ use composition::empty;
 use composition::extended;
 use macros_spec::Macro;
 use macros_spec::MacroAnswer;
+use macros_spec::Touched;
 use macros_spec::Vectors;
 use model_spec::MOVE_LIMIT;
 use model_spec::PLACE_COUNT;
@@ -10,6 +11,8 @@ use model_spec::RuleSet;
 use moves::cost_of;
 use moves::has_unknown_move;
 use moves::rule_at;
+use touched::touched;
+use touched::wide_positions;
 use validity::is_valid;
 ghost use mathlib.Core.Path.{_≡_};
 ghost use Rattle.theory_spec.specs.Sequences.{Numbered};
@@ -17,13 +20,11 @@ ghost use Rattle.model_spec.specs.Limits.{maxRules};
 ghost use Rattle.model_spec.specs.Refusals.{firstRefusal};
 ghost use Rattle.model_spec.specs.Validity.{WellFormed};
 ghost use Rattle.macros_spec.specs.Composition.{composed, asVectors};
-ghost use Rattle.macros_spec.specs.Answers.{sequenceCauses, blankMacro, macroWith, macroAnswer, Meaning};
+ghost use Rattle.macros_spec.specs.Answers.{sequenceCauses, refusedMacro, macroWith, macroAnswer, Meaning};
 
-// A refusal, with a macro of zeros.
+// A refusal: zeros.
 fn refused(outcome: u8) -> MacroAnswer
-    ensures { λ r. ⌜
-        (r .outcome ≡ outcome)
-        × (r .result ≡ blankMacro) ⌝ }
+    ensures { λ r. ⌜ r ≡ refusedMacro outcome ⌝ }
 {
     MacroAnswer {
         outcome,
@@ -31,6 +32,10 @@ fn refused(outcome: u8) -> MacroAnswer
             condition: [0; PLACE_COUNT],
             effect: [0; PLACE_COUNT],
             cost: 0,
+        },
+        touched: Touched {
+            reads: 0,
+            writes: 0,
         },
     }
 }
@@ -70,6 +75,8 @@ fn macro_for(set: RuleSet, moves: &[u8]) -> MacroAnswer
     let condition = composition.condition;
     let effect = composition.effect;
     let cost = cost_of(set, moves) as u16;
+    let wide = wide_positions(set);
+    let sets = touched(wide, composition);
     MacroAnswer {
         outcome: 0,
         result: Macro {
@@ -77,6 +84,7 @@ fn macro_for(set: RuleSet, moves: &[u8]) -> MacroAnswer
             effect,
             cost,
         },
+        touched: sets,
     }
 }
 

@@ -1,7 +1,8 @@
 -- `macros::macro_for` meets its contract: each way out is the answer to its cause.
 -- Assumes nothing.
-use mathlib.Core.Path.{_≡_, sym, _∙_}
-use mathlib.Core.Bool.{false, not}
+use mathlib.Core.Path.{_≡_, sym, ap, _∙_}
+use mathlib.Core.Bool.{true, false, not, cond}
+use mathlib.Core.Option.{some, none}
 use Prim.Native.Nat.{ℕ, _≤_}
 use native.Mathlib.Omega.{arith}
 use lib.ListN.{length}
@@ -13,21 +14,34 @@ use Rattle.model_spec.specs.Rules.{sequenceCost}
 use Rattle.model_spec.specs.Validity.{WellFormed}
 use Rattle.model_spec.specs.declared.RuleSet.{RuleSet}
 use Rattle.model_spec.proofs.ValidityLaws.{valid-cost}
-use Rattle.macros_spec.specs.Answers.{blankMacro}
-use Rattle.macros_spec.specs.declared.MacroAnswer.{MacroAnswer}
+use Rattle.macros_spec.specs.Composition.{Lines, linesOf}
+use Rattle.macros_spec.specs.Touched.{touchedBy, touchedOf}
+use Rattle.macros_spec.specs.how.Touching.{widePositions, touchedWithin}
+use Rattle.macros_spec.specs.declared.Touched.{Touched}
+use Rattle.macros_spec.specs.declared.Vectors.{Vectors}
 use Rattle.macros_spec.proofs.MoveLaws.{no-unknown-iff, numbered-wider}
 use Rattle.macros_spec.proofs.CompositionLoopLaws.{lines-denied, lines-admitted}
-use Rattle.macros_spec.proofs.AnswerLaws.{worked, worked-long, worked-unknown, worked-denied, worked-given}
+use Rattle.macros_spec.proofs.AnswerLaws.{worked-long, worked-unknown, worked-denied, worked-given}
+use Rattle.macros_spec.proofs.TouchedLaws.{touched-within}
 use Rattle.macros.proofs.macro_for.Statement.{statement}
 use Rattle.macros.proofs.macro_for.Tie as tie
 
 -- ── What the calls tell ──────────────────────────────────────────────────────────────────────────
 
-module _ (set : RuleSet) (moves : Sequence) where
-  refuses : (n : ℕ) (r : MacroAnswer) → (r .outcome ≡ n) × (r .result ≡ blankMacro)
-      → worked set moves ≡ record { outcome = n; result = blankMacro } → r ≡ worked set moves
-  refuses n r w e = (λ i. record { outcome = w .0 i; result = w .1 i }) ∙ sym e
+-- the sets of the vectors are those of the macro
+module _ (set : RuleSet) (v : Vectors) where
+  abbrev lines : Lines
+  lines = record { condition = v .condition; effect = v .effect }
 
+  sets-given : v .admitted ≡ true → (wide : ℕ) (sets : Touched) → wide ≡ widePositions set
+      → sets ≡ touchedWithin wide (linesOf v) → sets ≡ touchedBy set lines
+  sets-given admitted wide sets w e =
+      e
+      ∙ ap (λ x. touchedWithin x (linesOf v)) w
+      ∙ touched-within set (linesOf v)
+      ∙ ap (λ b. touchedOf set (cond b (some lines) none)) admitted
+
+module _ (set : RuleSet) (moves : Sequence) where
   -- a well-formed set has at most 31 rules
   numbered-31 : WellFormed set → any (λ r. not (within 1 (set .count) r)) moves ≡ false → Numbered 31 moves
   numbered-31 formed numbered =
@@ -47,8 +61,7 @@ refused-requires c κs = search needs
 returns : tie.Need-returns
 returns c =
     let s = c .before .before .before .args in
-    refuses (s .set) (s .moves .now) 11 (c .refused .result) (c .refused .ensures)
-    (worked-long (s .set) (s .moves .now) (c .before .if1 .taken))
+    c .refused .ensures ∙ sym (worked-long (s .set) (s .moves .now) (c .before .if1 .taken))
 
 has-unknown-move-requires : tie.Need-has-unknown-move-requires
 has-unknown-move-requires c κs = search needs
@@ -60,8 +73,8 @@ returns-2 : tie.Need-returns-2
 returns-2 c =
     let few = c .before .before .before in
     let s = few .before .before .args in
-    refuses (s .set) (s .moves .now) 13 (c .refused2 .result) (c .refused2 .ensures)
-    (worked-unknown (s .set) (s .moves .now) (few .if1 .left)
+    c .refused2 .ensures
+    ∙ sym (worked-unknown (s .set) (s .moves .now) (few .if1 .left)
     (sym (c .before .before .has-unknown-move .ensures) ∙ c .before .if2 .taken))
 
 composed-requires : tie.Need-composed-requires
@@ -81,8 +94,8 @@ returns-3 c =
     let few = numbered .before .before in
     let start = few .before .before in
     let s = start .args in
-    refuses (s .set) (s .moves .now) 17 (c .refused3 .result) (c .refused3 .ensures)
-    (worked-denied (s .set) (s .moves .now) (few .if1 .left) (start .pre)
+    c .refused3 .ensures
+    ∙ sym (worked-denied (s .set) (s .moves .now) (few .if1 .left) (start .pre)
     (sym (numbered .before .has-unknown-move .ensures) ∙ numbered .if2 .left)
     (lines-denied _ _ (made .composed .ensures) (not-true _ (c .before .if3 .taken))))
 
@@ -99,9 +112,16 @@ cast-cost c =
     let bound = cost-small (start .args .set) (start .args .moves .now) (start .pre) (few .if1 .left) known in
     search needs
 
+wide-positions-requires : tie.Need-wide-positions-requires
+wide-positions-requires c κs = search needs
+
+touched-requires : tie.Need-touched-requires
+touched-requires c κs = search needs
+
 returns-4 : tie.Need-returns-4
 returns-4 c =
-    let admitted = c .before .before .before in
+    let costed = c .before .before in
+    let admitted = costed .before .before .before in
     let made = admitted .before .before in
     let numbered = made .before in
     let few = numbered .before .before in
@@ -109,10 +129,13 @@ returns-4 c =
     let s = start .args in
     let known = sym (numbered .before .has-unknown-move .ensures) ∙ numbered .if2 .left in
     let bound = cost-small (s .set) (s .moves .now) (start .pre) (few .if1 .left) known in
-    let cost : c .cost-of .result ≡ sequenceCost (s .set) (s .moves .now) = omega (arith, c .cost-of .ensures) in
-    sym (rw cost
+    let cost : costed .cost-of .result ≡ sequenceCost (s .set) (s .moves .now) = omega (arith, costed .cost-of .ensures) in
+    let found = not-false _ (admitted .if3 .left) in
+    let sets = sets-given (s .set) (made .composed .result) found _ _
+    (c .before .wide-positions .ensures) (c .touched .ensures) in
+    sym (rw (cost, sets)
     (worked-given (s .set) (s .moves .now) (few .if1 .left) (start .pre) known _
-    (lines-admitted _ _ (made .composed .ensures) (not-false _ (admitted .if3 .left)))))
+    (lines-admitted _ _ (made .composed .ensures) found)))
 
 pub macro-for-spec : {M : Type 1} → statement M
 macro-for-spec =
@@ -128,4 +151,6 @@ macro-for-spec =
     returns-3
     cost-of-requires
     cast-cost
+    wide-positions-requires
+    touched-requires
     returns-4)

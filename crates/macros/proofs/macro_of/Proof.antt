@@ -28,10 +28,9 @@ returns : tie.Need-returns
 returns c =
     let judged = c .before in
     let s = judged .before .before .before .args in
-    let w = c .refused .ensures in
     answers (s .set) (s .moves .now) (c .refused .result)
     (answer-invalid (s .set) (s .moves .now) (failed (judged .before .is-valid .ensures .0) (judged .if1 .taken))
-    ∙ sym (λ i. record { outcome = w .0 i; result = w .1 i }))
+    ∙ sym (c .refused .ensures))
 
 macro-for-requires : tie.Need-macro-for-requires
 macro-for-requires c κs =
