@@ -79,12 +79,16 @@ short-numbered m i =
     (numbered-wider few 31 (sequenceOf few 3 i) (omega arith) q, sequence-length few 3 i)
 
 -- in a table it is the one at the index
+pub near-at : (set : RuleSet) → WellFormed set → (reach : ℕ) → reach ≤ 3 → (i : ℕ) → i < tableEntries set reach
+    → shortSequence (set .count) i ≡ sequenceAt set reach i
+unfolding shortSequence tableEntries sequenceAt
+near-at set valid reach near i h =
+    let e : max 1 (min (set .count) 31) ≡ set .count = omega (arith, valid .countLimits) in
+    rw e (sequence-at (set .count) reach 3 i near (omega (arith, count-sequences (set .count) reach)))
+
 pub short-at : (set : RuleSet) → WellFormed set → (i : ℕ) → i < tableEntries set 3
     → shortSequence (set .count) i ≡ sequenceAt set 3 i
-unfolding shortSequence tableEntries sequenceAt
-short-at set valid i h =
-    let e : max 1 (min (set .count) 31) ≡ set .count = omega (arith, valid .countLimits) in
-    rw e (sequence-at (set .count) 3 3 i (omega arith) (omega (arith, count-sequences (set .count) 3)))
+short-at set valid i h = near-at set valid 3 (omega arith) i h
 
 -- ── The part of the array that is lent ───────────────────────────────────────────────────────────
 
