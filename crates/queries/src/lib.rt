@@ -1,5 +1,5 @@
 // What is judged of a query before any sequence is visited.
-use checker::check_table;
+use acceptance::check_outcome;
 use model_spec::MOVE_LIMIT;
 use model_spec::RuleSet;
 use search_spec::ANY_VALUE;
@@ -69,7 +69,7 @@ pub fn query_refusal(
         «max_moves» maxCost stepLimit in
         r ≡ firstRefusal (queryCauses set query «plan_size»)) ⌝ }
 {
-    let checked = check_table(set, reach, table);
+    let checked = check_outcome(set, reach, table);
     if checked != 0 {
         if checked != 14 {
             return checked;

@@ -15,8 +15,8 @@ use Rattle.search_spec.proofs.OutcomeLaws.{last-refusal, shared-refusal}
 use Rattle.queries.proofs.query_refusal.Statement.{statement}
 use Rattle.queries.proofs.query_refusal.Tie as tie
 
-check-table-requires : tie.Need-check-table-requires
-check-table-requires c κs = search needs
+check-outcome-requires : tie.Need-check-outcome-requires
+check-outcome-requires c κs = search needs
 
 -- the query that is judged, whatever its cost bound and its step limit are
 abbrev queryOf : tie.Start → ℕ → ℕ → Query
@@ -28,14 +28,14 @@ queryOf s cost limit =
 abbrev entryOf : tie.After-shared-slice-known3 → tie.Start
 entryOf c = c .before .before .before
 
-abbrev callOf : tie.After-check-table → tie.Start
+abbrev callOf : tie.After-check-outcome → tie.Start
 callOf c = entryOf (c .before)
 
 returns : tie.Need-returns
 returns c cost limit =
     let call = c .before .before in
     let s = callOf call in
-    let e = call .check-table .ensures .0 in
+    let e = call .check-outcome .ensures .0 in
     e
     ∙ shared-refusal (s .args .set) (queryOf s cost limit) (s .args .plan-size) (λ k. c .before .if1 .taken (e ∙ k))
     (λ k. c .if2 .taken (e ∙ k))
@@ -47,7 +47,7 @@ startOf c = callOf (c .before)
 ready : (c : tie.Joined1) → Ready (startOf c .args .set) (startOf c .args .reach) (length (startOf c .args .table .now))
 ready c =
     let s = startOf c in
-    let e = sym (c .before .check-table .ensures .0) in
+    let e = sym (c .before .check-outcome .ensures .0) in
     checked-ready (s .args .set) (s .args .reach) (s .args .table .now)
     (⊎-elim (λ w. inl (e ∙ w .1 .left)) (λ w. inr (e ∙ w .left)) (c .if1 .came))
 
@@ -104,7 +104,7 @@ returns-6 c cost limit =
     let started = aimed .before .before in
     let judged = started .before .before in
     let s = startOf judged in
-    judged .before .check-table .ensures .0
+    judged .before .check-outcome .ensures .0
     ∙ last-refusal (s .args .set) (queryOf s cost limit) (s .args .plan-size) (ready judged) (start-fits started)
     (goal-fits aimed) (c .before .if5 .left) (c .if6 .left)
 
@@ -112,7 +112,7 @@ pub query-refusal-spec : {M : Type 1} → statement M
 query-refusal-spec =
     tie.close
     (tie.spec
-    check-table-requires
+    check-outcome-requires
     returns
     start-fits-requires
     returns-2
