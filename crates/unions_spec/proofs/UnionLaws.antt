@@ -125,6 +125,17 @@ module _ (set : RuleSet) (reach : ℕ) (table : List ℕ) (outcome : ℕ) (forme
       ⊎-elim (λ (z : outcome ≡ 0). rw (eq-eqb outcome 0 z) (shown z))
       (λ (n : outcome ≢ 0). rw (ne-eqb outcome 0 n) (silent n)) (equal? outcome 0)
 
+-- an answer that was given, with this outcome: a refusal, and with both unions
+module _ (set : RuleSet) (reach : ℕ) (table : List ℕ) (given outcome : ℕ) (e : given ≡ outcome) where
+  pub answer-refused : outcome ≢ 0 → (answer : TableAnswer) → answer ≡ (record { outcome = given; touched = untouched })
+      → answer ≡ answerWith set reach table outcome
+  answer-refused n answer a =
+      a ∙ rw e (sym (rw (ne-eqb outcome 0 n)))
+
+  pub answer-whole : outcome ≡ 0 → (touched : Touched) → touched ≡ tableTouched set reach table
+      → _≡_ {A = TableAnswer} (record { outcome = given; touched = touched }) (answerWith set reach table outcome)
+  answer-whole z touched t = rw (e, t) (sym (rw (eq-eqb outcome 0 z)))
+
 -- of the builder's answer, and of the table that it leaves
 pub build-unions : (set : RuleSet) (reach size : ℕ)
     → UnionMeaning set reach (builtBuffer set reach size) (buildAnswer set reach size)

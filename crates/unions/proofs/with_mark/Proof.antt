@@ -1,0 +1,41 @@
+-- `unions::with_mark` meets its contract: a kept entry leaves both unions, a mark adds what its sequence touches.
+-- Assumes nothing.
+use mathlib.Core.Path.{_≡_, sym, ap, _∙_}
+use mathlib.Core.Logic.{_≢_}
+use mathlib.Core.Bool.{not, cond}
+use Prim.Native.Nat.{ℕ}
+use lib.Dec.{eqb}
+use lib.Bits.{bitOr}
+use borrow.Author.Tests.{eq-eqb, ne-eqb}
+use borrow.Author.Needs.{needs}
+use Rattle.macros_spec.specs.declared.Touched.{Touched}
+use Rattle.tables_spec.specs.Table.{kept}
+use Rattle.unions_spec.specs.how.United.{united}
+use Rattle.unions.proofs.with_mark.Statement.{statement}
+use Rattle.unions.proofs.with_mark.Tie as tie
+
+module _ (entry : ℕ) (before touched : Touched) where
+  keeps : entry ≡ kept → before ≡ cond (not (eqb entry kept)) (united before touched) before
+  keeps k = sym (rw (eq-eqb entry kept k))
+
+  adds : entry ≢ kept → (own : Touched) → own ≡ touched
+      → record { reads = bitOr (before .reads) (own .reads); writes = bitOr (before .writes) (own .writes) }
+      ≡ cond (not (eqb entry kept)) (united before touched) before
+  unfolding united
+  adds m own e = ap (united before) e ∙ sym (rw (ne-eqb entry kept m))
+
+returns : tie.Need-returns
+returns c = let s = c .before .args in keeps (s .entry) (s .before) _ (c .if1 .taken)
+
+touched-requires : tie.Need-touched-requires
+touched-requires c κs = search needs
+
+returns-2 : tie.Need-returns-2
+returns-2 c =
+    let joined = c .before .before in
+    let own = joined .before .before in
+    let s = own .before .before .args in
+    adds (s .entry) (s .before) _ (own .before .if1 .left) (own .touched .result) (own .touched .ensures)
+
+pub with-mark-spec : {M : Type 1} → statement M
+with-mark-spec = tie.close (tie.spec returns touched-requires returns-2)

@@ -1,0 +1,41 @@
+// The positions that the marked sequences of a pruning table read and write, mark by mark; none when refused.
+use macros_spec::Touched;
+use macros_spec::Vectors;
+use tables::KEPT;
+use touched::touched;
+use unions_spec::TableAnswer;
+ghost use mathlib.Core.Path.{_≡_};
+ghost use mathlib.Core.Bool.{not, cond};
+ghost use lib.Dec.{eqb};
+ghost use Rattle.macros_spec.specs.Composition.{linesOf};
+ghost use Rattle.macros_spec.specs.Touched.{untouched};
+ghost use Rattle.macros_spec.specs.how.Touching.{touchedWithin};
+ghost use Rattle.tables_spec.specs.Table.{kept};
+ghost use Rattle.unions_spec.specs.how.United.{united};
+
+// What a refused build or check gives: no positions.
+pub fn refused(outcome: u8) -> TableAnswer
+    ensures { λ r. ⌜ r ≡ (record { outcome = outcome; touched = untouched }) ⌝ }
+{
+    let touched = Touched {
+        reads: 0,
+        writes: 0,
+    };
+    TableAnswer { outcome, touched }
+}
+
+// Both unions with the entry of one sequence more, of which these are the vectors: as they were where it is kept.
+pub fn with_mark(before: Touched, wide: u16, entry: usize, vectors: Vectors) -> Touched
+    ensures { λ r. ⌜
+        (let own = touchedWithin wide (linesOf vectors) in
+        r ≡ cond (not (eqb entry kept)) (united before own) before) ⌝ }
+{
+    if entry == KEPT {
+        return before;
+    }
+    let own = touched(wide, vectors);
+    Touched {
+        reads: before.reads | own.reads,
+        writes: before.writes | own.writes,
+    }
+}
