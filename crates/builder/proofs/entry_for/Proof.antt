@@ -50,27 +50,22 @@ module _ (set : RuleSet) (valid : WellFormed set) (i : ℕ) (h : i < tableEntrie
         (arith, found .0, entries-bound set 3 (valid .countLimits .1) (omega arith)),
   )
 
-profile-at-requires : tie.Need-profile-at-requires
-profile-at-requires c κs = search needs
-
 smallest-witness-requires : tie.Need-smallest-witness-requires
 smallest-witness-requires c κs = search needs
 
 returns : tie.Need-returns
 returns c =
-    let own = c .before .before in
-    let s = own .before in
-    own-index (s .args .set) (s .pre .0) (s .args .index) (s .pre .1) (own .profile-at .result .vectors)
-    (own .profile-at .result .cost) (own .profile-at .ensures .0) (own .profile-at .ensures .1)
+    let s = c .before .before in
+    let a = s .args in
+    own-index (a .set) (s .pre .0) (a .index) (s .pre .1) (a .own .vectors) (a .own .cost) (s .pre .2) (s .pre .3)
     (c .before .smallest-witness .result) (c .before .smallest-witness .ensures) (c .if1 .taken)
 
 returns-2 : tie.Need-returns-2
 returns-2 c =
-    let own = c .before .before in
-    let s = own .before in
-    witness (s .args .set) (s .pre .0) (s .args .index) (s .pre .1) (own .profile-at .result .vectors)
-    (own .profile-at .result .cost) (own .profile-at .ensures .0) (own .profile-at .ensures .1)
+    let s = c .before .before in
+    let a = s .args in
+    witness (a .set) (s .pre .0) (a .index) (s .pre .1) (a .own .vectors) (a .own .cost) (s .pre .2) (s .pre .3)
     (c .before .smallest-witness .result) (c .before .smallest-witness .ensures) (c .if1 .left)
 
 pub entry-for-spec : {M : Type 1} → statement M
-entry-for-spec = tie.close (tie.spec profile-at-requires smallest-witness-requires returns returns-2)
+entry-for-spec = tie.close (tie.spec smallest-witness-requires returns returns-2)
