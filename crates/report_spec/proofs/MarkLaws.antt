@@ -1,4 +1,4 @@
--- The marks of a listing: which indices they are.
+-- The marks of a listing: which indices they are, and which positions their sequences read and write.
 -- Assumes nothing.
 use mathlib.Core.Path.{_≡_, sym, subst}
 use mathlib.Core.Logic.{_↔_, _≢_}
@@ -7,12 +7,16 @@ use Prim.Native.Nat.{ℕ, _≤_, _<_}
 use native.Mathlib.Omega.{arith}
 use lib.Dec.{eqb}
 use Rattle.theory_spec.specs.Lists.{_∈_, Pairwise, numbersFrom}
+use Rattle.theory_spec.specs.Sets.{has}
 use Rattle.theory_spec.specs.Sequences.{Sequence}
 use Rattle.theory_spec.proofs.ListLaws.{in-keep, of-keep, pairwise-keep, of-numbersFrom, in-numbersFrom}
 use Rattle.theory_spec.proofs.TestLaws.{eqb-iff, not-iff}
+use Rattle.model_spec.specs.Validity.{WellFormed}
 use Rattle.model_spec.specs.declared.RuleSet.{RuleSet}
+use Rattle.macros_spec.specs.Answers.{touchedIn, SequenceReads, SequenceWrites}
+use Rattle.macros_spec.proofs.SequenceTouchLaws.{reads-iff, writes-iff}
 use Rattle.tables_spec.specs.Table.{tableEntries, sequenceAt, kept, builtEntry, Prunable, LeastWitness}
-use Rattle.tables_spec.proofs.TableLaws.{sequence-index, built-least, built-mark-iff}
+use Rattle.tables_spec.proofs.TableLaws.{index-sequence, sequence-index, built-least, built-mark-iff}
 use Rattle.report_spec.specs.Listing.{markedIndices}
 use Rattle.report_spec.specs.Report.{Listed}
 use Rattle.report_spec.proofs.ListLaws.{increase}
@@ -44,6 +48,17 @@ module _ (set : RuleSet) where
   -- each with the smallest index that will do
   pub marked-least : (i : ℕ) → i ∈ markedIndices set → LeastWitness set 2 i (builtEntry set 2 i)
   marked-least i d = let w = marked-entry-iff i .0 d in built-least set 2 i (w .0) (w .1)
+
+  module _ (formed : WellFormed set) (i k : ℕ) (d : i ∈ markedIndices set) (h : k < 16) where
+    -- the positions that its sequence reads and writes
+    abbrev own : Sequence
+    own = sequenceAt set 2 i
+
+    pub marked-reads : (has (touchedIn set own .reads) k ≡ true) ↔ SequenceReads set own k
+    marked-reads = reads-iff set formed own (index-sequence set 2 i (marked-entry-iff i .0 d .0) .1) k h
+
+    pub marked-writes : (has (touchedIn set own .writes) k ≡ true) ↔ SequenceWrites set own k
+    marked-writes = writes-iff set formed own (index-sequence set 2 i (marked-entry-iff i .0 d .0) .1) k h
 
   module _ (few : set .count ≤ 31) where
     -- exactly those of prunable sequences

@@ -9,13 +9,15 @@ use lib.ListN.{length, replicate}
 use borrow.Author.Tests.{le-leb, lt-leb, ne-eqb}
 use Rattle.theory_spec.specs.Lists.{padded}
 use Rattle.theory_spec.proofs.TestLaws.{below?}
+use Rattle.model_spec.specs.Validity.{WellFormed}
 use Rattle.model_spec.specs.declared.RuleSet.{RuleSet}
 use Rattle.files_spec.specs.Text.{numeral, line}
 use Rattle.files_spec.specs.Reading.{reading, ReadAs}
 use Rattle.files_spec.proofs.RoundTrip.{read-written}
 use Rattle.report_spec.specs.Listing.{listingOf, listing}
 use Rattle.report_spec.specs.Report.{reportLength, reported, ReportMeaning}
-use Rattle.report_spec.proofs.MarkLaws.{marked-rise, marked-least, marked-prunable-iff, listed-iff}
+use Rattle.report_spec.proofs.MarkLaws.{marked-rise, marked-least, marked-reads, marked-writes}
+use Rattle.report_spec.proofs.MarkLaws.{marked-prunable-iff, listed-iff}
 use Rattle.report_spec.proofs.LengthLaws.{listing-limits}
 
 module _ (text : List ℕ) where
@@ -51,13 +53,18 @@ module _ (text : List ℕ) where
       sequences = λ set p. listed-iff set (few set p);
       rising = λ set p. marked-rise set;
       least = λ set p. marked-least set;
+      reads = λ set p. marked-reads set (formed set p);
+      writes = λ set p. marked-writes set (formed set p);
       short = short (below? room (length (listing text)));
       shown = shown (below? room (length (listing text)));
       zeros = zeros (below? room (length (listing text)));
     }
       where
+        formed : (set : RuleSet) → ReadAs text set → WellFormed set
+        formed set p = read-written text set p .0 .formed
+
         few : (set : RuleSet) → ReadAs text set → set .count ≤ 31
-        few set p = read-written text set p .0 .formed .countLimits .1
+        few set p = formed set p .countLimits .1
 
         short : (room < length (listing text)) ⊎ (length (listing text) ≤ room) → (reportLength text room ≡ 0)
             ↔ (room < length (listing text))

@@ -31,9 +31,9 @@ abbrev pub Listed : RuleSet → Sequence → Type 0
 Listed set q = (i : ℕ) × (i ∈ markedIndices set) × (sequenceAt set listedReach i ≡ q)
 
 -- what a report tells and leaves. A refused text is listed by its number alone. Of a text that is read, the sequences
--- listed are exactly the prunable ones (document 01: needless), in order, each with the smallest index that will do as
--- its witness, and with the positions that it reads and writes. The buffer holds the whole listing, or nothing; the
--- length is 0 exactly if the buffer is shorter than the listing
+-- listed are exactly the prunable ones (document 01: needless), in order, and each with the smallest index that will do
+-- as its witness and the positions that it reads and writes. The buffer holds the whole listing, or nothing; the length
+-- is 0 exactly if the buffer is shorter than the listing
 pub record ReportMeaning (text : List ℕ) (room r : ℕ) (out : List ℕ) : Type 0 where
   pub refused : reading text .outcome ≢ 0 → listing text ≡ line "refused=" (numeral (reading text .outcome) ∷ [])
   pub read : (set : RuleSet) → ReadAs text set → listing text ≡ listingOf set
