@@ -13,7 +13,6 @@ use Rattle.theory_spec.specs.Lists.{_∈_, keepIf, keep, numbersFrom}
 use Rattle.theory_spec.specs.Sets.{has}
 use Rattle.theory_spec.specs.Sequences.{Sequence, Numbered}
 use Rattle.theory_spec.proofs.ListLaws.{in-getD, length-numbersFrom}
-use Rattle.model_spec.specs.States.{places}
 use Rattle.model_spec.specs.declared.RuleSet.{RuleSet}
 use Rattle.files_spec.specs.Text.{comma, numeral, commaList, line}
 use Rattle.files_spec.specs.Reading.{reading}
@@ -69,7 +68,7 @@ kept-spaces text p (x ∷ l) = go (p x) (kept-spaces text p l)
     go false h = omega arith
 
 -- all sixteen positions, with a comma after each
-all-positions : spaces (map (λ i. numeral (i + 1)) places) ≡ 39
+all-positions : spaces (map numeral (numbersFrom 1 16)) ≡ 39
 unfolding numeral
 all-positions = refl
 
@@ -79,7 +78,7 @@ positions-length m =
     omega (
       arith,
       list-length (positionItems m),
-      kept-spaces (λ i. numeral (i + 1)) (has m) places,
+      kept-spaces numeral (λ n. has m (n - 1)) (numbersFrom 1 16),
       all-positions,
     )
 

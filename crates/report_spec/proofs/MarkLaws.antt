@@ -1,9 +1,9 @@
 -- The marks of a listing: which indices they are, and which positions their sequences read and write.
 -- Assumes nothing.
-use mathlib.Core.Path.{_≡_, sym, subst}
+use mathlib.Core.Path.{_≡_, refl, sym, subst}
 use mathlib.Core.Logic.{_↔_, _≢_}
 use mathlib.Core.Bool.{Bool, true, not}
-use Prim.Native.Nat.{ℕ, _≤_, _<_}
+use Prim.Native.Nat.{ℕ, _-_, _≤_, _<_}
 use native.Mathlib.Omega.{arith}
 use lib.Dec.{eqb}
 use Rattle.theory_spec.specs.Lists.{_∈_, Pairwise, numbersFrom}
@@ -17,9 +17,28 @@ use Rattle.macros_spec.specs.Answers.{touchedIn, SequenceReads, SequenceWrites}
 use Rattle.macros_spec.proofs.SequenceTouchLaws.{reads-iff, writes-iff}
 use Rattle.tables_spec.specs.Table.{tableEntries, sequenceAt, kept, builtEntry, Prunable, LeastWitness}
 use Rattle.tables_spec.proofs.TableLaws.{index-sequence, sequence-index, built-least, built-mark-iff}
-use Rattle.report_spec.specs.Listing.{markedIndices}
-use Rattle.report_spec.specs.Report.{Listed}
+use Rattle.report_spec.specs.Listing.{markedIndices, positionsOf, markLines}
+use Rattle.report_spec.specs.Report.{Listed, ExactlyThose, MarkMeaning}
 use Rattle.report_spec.proofs.ListLaws.{increase}
+
+-- the positions of a set, in rising order, are those of its members
+positions-exactly : (m : ℕ) (P : ℕ → Type 0) → ((k : ℕ) → k < 16 → (has m k ≡ true) ↔ P k)
+    → ExactlyThose P (positionsOf m)
+positions-exactly m P w = (pairwise-keep (λ i j. i < j) test (numbersFrom 1 16) (increase 1 16), λ n. (down n, up n))
+  where
+    test : ℕ → Bool
+    test n = has m (n - 1)
+
+    down : (n : ℕ) → n ∈ positionsOf m → (1 ≤ n) × (n ≤ 16) × P (n - 1)
+    down n d =
+        let v = of-keep test (numbersFrom 1 16) d in
+        let limits = of-numbersFrom 1 16 (v .0) in
+        (limits .0, omega (arith, limits .1), w (n - 1) (omega (arith, limits)) .0 (v .1))
+
+    up : (n : ℕ) → (1 ≤ n) × (n ≤ 16) × P (n - 1) → n ∈ positionsOf m
+    up n v =
+        in-keep test (in-numbersFrom 1 16 n (v .0) (omega (arith, v .1)))
+        (w (n - 1) (omega (arith, v .0, v .1)) .1 (v .2))
 
 module _ (set : RuleSet) where
   -- ── Which indices are marked ───────────────────────────────────────────────────────────────────
@@ -49,16 +68,19 @@ module _ (set : RuleSet) where
   pub marked-least : (i : ℕ) → i ∈ markedIndices set → LeastWitness set 2 i (builtEntry set 2 i)
   marked-least i d = let w = marked-entry-iff i .0 d in built-least set 2 i (w .0) (w .1)
 
-  module _ (formed : WellFormed set) (i k : ℕ) (d : i ∈ markedIndices set) (h : k < 16) where
-    -- the positions that its sequence reads and writes
-    abbrev own : Sequence
-    own = sequenceAt set 2 i
-
-    pub marked-reads : (has (touchedIn set own .reads) k ≡ true) ↔ SequenceReads set own k
-    marked-reads = reads-iff set formed own (index-sequence set 2 i (marked-entry-iff i .0 d .0) .1) k h
-
-    pub marked-writes : (has (touchedIn set own .writes) k ≡ true) ↔ SequenceWrites set own k
-    marked-writes = writes-iff set formed own (index-sequence set 2 i (marked-entry-iff i .0 d .0) .1) k h
+  -- its lines, and the positions that its sequence reads and writes
+  pub marked-lines : WellFormed set → (i : ℕ) → i ∈ markedIndices set → MarkMeaning set i
+  unfolding markLines
+  marked-lines formed i d =
+      let own = sequenceAt set 2 i in
+      let numbered = index-sequence set 2 i (marked-entry-iff i .0 d .0) .1 in
+      let touched = touchedIn set own in record {
+        reads = positionsOf (touched .reads);
+        writes = positionsOf (touched .writes);
+        lines = refl;
+        readsExactly = positions-exactly (touched .reads) (SequenceReads set own) (reads-iff set formed own numbered);
+        writesExactly = positions-exactly (touched .writes) (SequenceWrites set own) (writes-iff set formed own numbered);
+      }
 
   module _ (few : set .count ≤ 31) where
     -- exactly those of prunable sequences

@@ -16,7 +16,7 @@ use Rattle.files_spec.specs.Reading.{reading, ReadAs}
 use Rattle.files_spec.proofs.RoundTrip.{read-written}
 use Rattle.report_spec.specs.Listing.{listingOf, listing}
 use Rattle.report_spec.specs.Report.{reportLength, reported, ReportMeaning}
-use Rattle.report_spec.proofs.MarkLaws.{marked-rise, marked-least, marked-reads, marked-writes}
+use Rattle.report_spec.proofs.MarkLaws.{marked-rise, marked-least, marked-lines}
 use Rattle.report_spec.proofs.MarkLaws.{marked-prunable-iff, listed-iff}
 use Rattle.report_spec.proofs.LengthLaws.{listing-limits}
 
@@ -53,8 +53,7 @@ module _ (text : List ℕ) where
       sequences = λ set p. listed-iff set (few set p);
       rising = λ set p. marked-rise set;
       least = λ set p. marked-least set;
-      reads = λ set p. marked-reads set (formed set p);
-      writes = λ set p. marked-writes set (formed set p);
+      lines = λ set p. marked-lines set (formed set p);
       short = short (below? room (length (listing text)));
       shown = shown (below? room (length (listing text)));
       zeros = zeros (below? room (length (listing text)));

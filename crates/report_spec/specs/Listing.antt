@@ -2,13 +2,13 @@
 -- marked sequence reads and writes.
 use mathlib.Core.Bool.{not, cond}
 use mathlib.Core.List.{List, [], _∷_, _++_, map}
-use Prim.Native.Nat.{ℕ, _+_}
+use Prim.Native.Nat.{ℕ, _-_}
 use lib.Dec.{eqb}
 use lib.ListN.{length}
 use Rattle.theory_spec.specs.Lists.{keep, flat, numbersFrom}
 use Rattle.theory_spec.specs.Sets.{has}
 use Rattle.theory_spec.specs.Sequences.{Sequence}
-use Rattle.model_spec.specs.States.{places}
+use Rattle.model_spec.specs.Limits.{placeCount}
 use Rattle.model_spec.specs.declared.RuleSet.{RuleSet}
 use Rattle.files_spec.specs.Text.{numeral, line}
 use Rattle.files_spec.specs.Reading.{reading}
@@ -28,9 +28,13 @@ markedIndices set =
 abbrev pub sequenceItems : Sequence → List (List ℕ)
 sequenceItems q = map numeral q
 
--- the positions of a set, in rising order, as the items of a line
+-- the positions of a set, in rising order
+abbrev pub positionsOf : ℕ → List ℕ
+positionsOf members = keep (λ n. has members (n - 1)) (numbersFrom 1 placeCount)
+
+-- the same as the items of a line
 abbrev pub positionItems : ℕ → List (List ℕ)
-positionItems positions = map (λ i. numeral (i + 1)) (keep (has positions) places)
+positionItems members = map numeral (positionsOf members)
 
 -- a mark: the sequence; its witness, nothing after the sign if that is empty; and the positions that the sequence, not
 -- its witness, reads and writes, none for a sequence that no state admits

@@ -2,21 +2,20 @@
 -- that means, over all sequences and states.
 use mathlib.Core.Path.{_≡_}
 use mathlib.Core.Logic.{_↔_, _≢_}
-use mathlib.Core.Bool.{true, cond}
-use mathlib.Core.List.{List, [], _∷_, _++_}
-use Prim.Native.Nat.{ℕ, _-_, _<_}
+use mathlib.Core.Bool.{cond}
+use mathlib.Core.List.{List, [], _∷_, _++_, map}
+use Prim.Native.Nat.{ℕ, _-_, _≤_, _<_}
 use lib.Dec.{leb}
 use lib.ListN.{length, replicate}
 use Rattle.theory_spec.specs.Lists.{_∈_, Pairwise, padded}
-use Rattle.theory_spec.specs.Sets.{has}
 use Rattle.theory_spec.specs.Sequences.{Sequence}
 use Rattle.model_spec.specs.Limits.{placeCount}
 use Rattle.model_spec.specs.declared.RuleSet.{RuleSet}
 use Rattle.files_spec.specs.Text.{numeral, line}
 use Rattle.files_spec.specs.Reading.{reading, ReadAs}
-use Rattle.macros_spec.specs.Answers.{touchedIn, SequenceReads, SequenceWrites}
+use Rattle.macros_spec.specs.Answers.{SequenceReads, SequenceWrites}
 use Rattle.tables_spec.specs.Table.{tableEntries, sequenceAt, builtEntry, Prunable, LeastWitness}
-use Rattle.report_spec.specs.Listing.{listedReach, markedIndices, listingOf, listing}
+use Rattle.report_spec.specs.Listing.{listedReach, markedIndices, sequenceItems, markLines, listingOf, listing}
 
 -- the length of the listing, for a buffer of `room` bytes; 0 where the buffer is shorter
 unfoldable pub reportLength : List ℕ → ℕ → ℕ
@@ -29,6 +28,24 @@ reported text room = cond (leb (length (listing text)) room) (padded room 0 (lis
 -- the sequence q is listed: it is that of a marked index
 abbrev pub Listed : RuleSet → Sequence → Type 0
 Listed set q = (i : ℕ) × (i ∈ markedIndices set) × (sequenceAt set listedReach i ≡ q)
+
+-- the positions with a property, each of them and no other, in rising order
+abbrev pub ExactlyThose : (ℕ → Type 0) → List ℕ → Type 0
+ExactlyThose P positions =
+    Pairwise (λ m n. m < n) positions
+    × ((n : ℕ) → (n ∈ positions) ↔ ((1 ≤ n) × (n ≤ placeCount) × P (n - 1)))
+
+-- the lines of a mark: the sequence, its witness, and the positions that the sequence reads and writes
+pub record MarkMeaning (set : RuleSet) (i : ℕ) : Type 0 where
+  pub reads : List ℕ
+  pub writes : List ℕ
+  pub lines : markLines set i
+      ≡ line "drop=" (sequenceItems (sequenceAt set listedReach i))
+      ++ line "for=" (sequenceItems (sequenceAt set listedReach (builtEntry set listedReach i)))
+      ++ line "reads=" (map numeral reads)
+      ++ line "moves=" (map numeral writes)
+  pub readsExactly : ExactlyThose (SequenceReads set (sequenceAt set listedReach i)) reads
+  pub writesExactly : ExactlyThose (SequenceWrites set (sequenceAt set listedReach i)) writes
 
 -- what a report tells and leaves. A refused text is listed by its number alone. Of a text that is read, the sequences
 -- listed are exactly the prunable ones (document 01: needless), in order, and each with the smallest index that will do
@@ -44,10 +61,7 @@ pub record ReportMeaning (text : List ℕ) (room r : ℕ) (out : List ℕ) : Typ
   pub rising : (set : RuleSet) → ReadAs text set → Pairwise (λ i j. i < j) (markedIndices set)
   pub least : (set : RuleSet) → ReadAs text set → (i : ℕ) → i ∈ markedIndices set
       → LeastWitness set listedReach i (builtEntry set listedReach i)
-  pub reads : (set : RuleSet) → ReadAs text set → (i k : ℕ) → i ∈ markedIndices set → k < placeCount
-      → let q = sequenceAt set listedReach i in (has (touchedIn set q .reads) k ≡ true) ↔ SequenceReads set q k
-  pub writes : (set : RuleSet) → ReadAs text set → (i k : ℕ) → i ∈ markedIndices set → k < placeCount
-      → let q = sequenceAt set listedReach i in (has (touchedIn set q .writes) k ≡ true) ↔ SequenceWrites set q k
+  pub lines : (set : RuleSet) → ReadAs text set → (i : ℕ) → i ∈ markedIndices set → MarkMeaning set i
   pub short : (r ≡ 0) ↔ (room < length (listing text))
   pub shown : r ≢ 0 → (r ≡ length (listing text)) × (out ≡ listing text ++ replicate (room - r) 0)
   pub zeros : r ≡ 0 → out ≡ replicate room 0
