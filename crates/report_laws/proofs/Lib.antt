@@ -1,3 +1,4 @@
 pub mod SequenceTextLaws
+pub mod PositionLoopLaws
 pub mod MarkLoopLaws
 pub mod TableTextLaws

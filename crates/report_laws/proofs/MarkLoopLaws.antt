@@ -10,22 +10,27 @@ use lib.ListN.{length}
 use borrow.Author.Tests.{eq-eqb, ne-eqb}
 use Rattle.theory_spec.specs.Lists.{keep, flat, numbersFrom}
 use Rattle.model_spec.proofs.LoopLaws.{left-more, left-none}
-use Rattle.files_spec.specs.Text.{bytes, lineFeed}
+use Rattle.model_spec.specs.declared.RuleSet.{RuleSet}
+use Rattle.files_spec.specs.Text.{bytes, lineFeed, line}
 use Rattle.tables_spec.specs.Table.{kept, entryAt}
-use Rattle.report_laws.specs.how.Marks.{marks, tableMarks, sequenceText, markText, entryLines, marksText}
+use Rattle.report_spec.specs.Listing.{positionItems}
+use Rattle.report_laws.specs.how.Marks.{marks, tableMarks, sequenceText, touchedAt, markText, entryLines}
+use Rattle.report_laws.specs.how.Marks.{marksText}
 
 -- ── One entry ────────────────────────────────────────────────────────────────────────────────────
 
-module _ (m i entry : ℕ) where
+module _ (set : RuleSet) (i entry : ℕ) where
   -- a sequence that is kept has no lines
-  pub entry-kept : entry ≡ kept → entryLines m i entry ≡ []
+  pub entry-kept : entry ≡ kept → entryLines set i entry ≡ []
   unfolding entryLines
   entry-kept e = rw (eq-eqb entry kept e)
 
-  -- a mark has two
-  pub entry-marked : entry ≢ kept → entryLines m i entry
-      ≡ bytes "drop=" ++ sequenceText m i ++ (lineFeed ∷ [])
-      ++ (bytes "for=" ++ sequenceText m entry ++ (lineFeed ∷ []))
+  -- a mark has four
+  pub entry-marked : entry ≢ kept → entryLines set i entry
+      ≡ bytes "drop=" ++ sequenceText (set .count) i ++ (lineFeed ∷ [])
+      ++ (bytes "for=" ++ sequenceText (set .count) entry ++ (lineFeed ∷ []))
+      ++ line "reads=" (positionItems (touchedAt set i .reads))
+      ++ line "moves=" (positionItems (touchedAt set i .writes))
   unfolding entryLines markText
   entry-marked h = rw (ne-eqb entry kept h)
 
@@ -54,17 +59,17 @@ module _ (table : List ℕ) where
   pub marks-end : (i : ℕ) → length table / 2 ≤ i → marksFrom i ≡ []
   marks-end i h = rw (left-none i (length table / 2) h)
 
-  module _ (m : ℕ) where
+  module _ (set : RuleSet) where
     -- the lines of the entries from place i on
     abbrev pub linesFrom : ℕ → List ℕ
-    linesFrom i = flat (λ j. entryLines m j (entryAt table j)) (numbersFrom i (length table / 2 - i))
+    linesFrom i = flat (λ j. entryLines set j (entryAt table j)) (numbersFrom i (length table / 2 - i))
 
-    pub lines-all : linesFrom 0 ≡ marksText m table
+    pub lines-all : linesFrom 0 ≡ marksText set table
     unfolding marksText
     lines-all = let e : length table / 2 - 0 ≡ length table / 2 = omega arith in rw e
 
     -- those of the entry at i come first
-    pub lines-more : (i entry : ℕ) → i < length table / 2 → entry ≡ entryAt table i → linesFrom i ≡ entryLines m i entry
+    pub lines-more : (i entry : ℕ) → i < length table / 2 → entry ≡ entryAt table i → linesFrom i ≡ entryLines set i entry
         ++ linesFrom (i + 1)
     lines-more i entry h e = rw (left-more i (length table / 2) h, e)
 

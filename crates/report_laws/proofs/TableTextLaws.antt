@@ -4,20 +4,26 @@ use mathlib.Core.Path.{_≡_, refl, ap, _∙_}
 use mathlib.Core.Logic.{_≢_}
 use mathlib.Core.Bool.{Bool, true, false, not, cond}
 use mathlib.Core.List.{[]}
-use Prim.Native.Nat.{ℕ, _/_, _≤_, _<_}
+use Prim.Native.Nat.{ℕ, _/_, _≤_, _<_, min, max}
 use native.Mathlib.Omega.{arith}
 use lib.Dec.{eqb}
 use lib.ListN.{length}
 use borrow.Author.Tests.{eqb-false}
 use Rattle.theory_spec.specs.Lists.{flat, numbersFrom}
 use Rattle.theory_spec.proofs.ListLaws.{flat-same, of-numbersFrom}
+use Rattle.theory_spec.proofs.IndexLaws.{sequence-at}
+use Rattle.model_spec.specs.Validity.{WellFormed}
 use Rattle.model_spec.specs.declared.RuleSet.{RuleSet}
 use Rattle.files_spec.specs.Text.{line}
-use Rattle.tables_spec.specs.Table.{tableEntries, kept, entryAt, builtEntry, builtTable}
+use Rattle.macros_spec.specs.Answers.{touchedIn}
+use Rattle.tables_spec.specs.Table.{tableEntries, sequenceAt, kept, entryAt, builtEntry, builtTable}
+use Rattle.tables_spec.proofs.CountLaws.{count-sequences}
 use Rattle.tables_spec.proofs.TableLaws.{built-entry, built-length, built-least}
+use Rattle.tables_laws.specs.how.ShortSequences.{shortSequence}
 use Rattle.output_laws.proofs.OverlayLaws.{shown-number}
 use Rattle.report_spec.specs.Listing.{markedIndices, markLines, listingOf}
-use Rattle.report_laws.specs.how.Marks.{marks, tableMarks, markText, entryLines, marksText, tableText}
+use Rattle.report_laws.specs.how.Marks.{marks, tableMarks, touchedAt, markText, entryLines, marksText}
+use Rattle.report_laws.specs.how.Marks.{tableText}
 use Rattle.report_spec.proofs.ListLaws.{keep-same, flat-keep}
 use Rattle.report_laws.proofs.SequenceTextLaws.{text-at}
 
@@ -35,38 +41,55 @@ module _ (set : RuleSet) where
       (λ i d. ap (λ n. not (eqb n kept)) (built-entry set 2 i
       (omega (arith, of-numbersFrom 0 (tableEntries set 2) d)))))
 
-  module _ (some : 1 ≤ set .count) where
+  module _ (formed : WellFormed set) where
+    -- the sequence of an index
+    short-two : (i : ℕ) → i < tableEntries set 2 → shortSequence (set .count) i ≡ sequenceAt set 2 i
+    unfolding shortSequence tableEntries sequenceAt
+    short-two i h =
+        let e : max 1 (min (set .count) 31) ≡ set .count = omega (arith, formed .countLimits) in
+        rw e (sequence-at (set .count) 2 3 i (omega arith) (omega (arith, count-sequences (set .count) 2)))
+
+    -- what it reads and writes
+    touched-at : (i : ℕ) → i < tableEntries set 2 → touchedAt set i ≡ touchedIn set (sequenceAt set 2 i)
+    unfolding touchedAt
+    touched-at i h = ap (touchedIn set) (short-two i h)
+
     -- the lines of a mark
     mark-lines : (i : ℕ) → i < tableEntries set 2 → builtEntry set 2 i ≢ kept
-        → markText (set .count) i (builtEntry set 2 i) ≡ markLines set i
+        → markText set i (builtEntry set 2 i) ≡ markLines set i
     unfolding markText markLines line
     mark-lines i h m =
-        rw (text-at set some i h, text-at set some (builtEntry set 2 i) (omega (arith, built-least set 2 i h m .0)))
+        let some = formed .countLimits .0 in
+        rw (
+          text-at set some i h,
+          text-at set some (builtEntry set 2 i) (omega (arith, built-least set 2 i h m .0)),
+          touched-at i h,
+        )
 
     -- the lines of an entry
     entry-lines : (i : ℕ) → i < tableEntries set 2
-        → entryLines (set .count) i (entryAt (builtTable set 2) i)
+        → entryLines set i (entryAt (builtTable set 2) i)
         ≡ cond (not (eqb (builtEntry set 2 i) kept)) (markLines set i) []
     unfolding entryLines
     entry-lines i h = rw (built-entry set 2 i h) (go (eqb (builtEntry set 2 i) kept) refl)
       where
         go : (b : Bool) → eqb (builtEntry set 2 i) kept ≡ b
-            → cond b [] (markText (set .count) i (builtEntry set 2 i)) ≡ cond (not b) (markLines set i) []
+            → cond b [] (markText set i (builtEntry set 2 i)) ≡ cond (not b) (markLines set i) []
         go true e = refl
         go false e = mark-lines i h (eqb-false (builtEntry set 2 i) kept e)
 
     -- the lines of all marks
-    marks-lines : marksText (set .count) (builtTable set 2) ≡ flat (markLines set) (markedIndices set)
+    marks-lines : marksText set (builtTable set 2) ≡ flat (markLines set) (markedIndices set)
     unfolding marksText markedIndices
     marks-lines =
         rw entry-count
-        (flat-same (λ i. entryLines (set .count) i (entryAt (builtTable set 2) i))
+        (flat-same (λ i. entryLines set i (entryAt (builtTable set 2) i))
         (λ i. cond (not (eqb (builtEntry set 2 i) kept)) (markLines set i) [])
         (numbersFrom 0 (tableEntries set 2))
         (λ i d. entry-lines i (omega (arith, of-numbersFrom 0 (tableEntries set 2) d)))
         ∙ flat-keep (λ i. not (eqb (builtEntry set 2 i) kept)) (markLines set) (numbersFrom 0 (tableEntries set 2)))
 
     -- the listing, where the number of marks has at most three digits
-    pub table-listing : length (markedIndices set) ≤ 999 → tableText (set .count) (builtTable set 2) ≡ listingOf set
+    pub table-listing : length (markedIndices set) ≤ 999 → tableText set (builtTable set 2) ≡ listingOf set
     unfolding tableText listingOf
     table-listing few = rw (table-marks, marks-lines, shown-number (length (markedIndices set)) few)
