@@ -1,58 +1,36 @@
 // The lines of a mark in a listing, laid over a buffer from a place on.
-use number_output::put_number;
-use output::put;
-use output::put_word;
+use macros_spec::Touched;
+use model_spec::RuleSet;
+use position_output::put_positions;
+use sequence_output::put_sequence_line;
+use sequences::profile_at;
 use tables::KEPT;
+use touched::touched;
+use touched::wide_positions;
 ghost use mathlib.Core.Path.{_≡_};
-ghost use mathlib.Core.List.{[], _∷_, _++_};
-ghost use Prim.Native.Nat.{max};
-ghost use Rattle.files_spec.specs.Text.{lineFeed};
 ghost use Rattle.output_laws.specs.how.Overlay.{Laid};
-ghost use Rattle.report_laws.specs.how.Marks.{sequenceText, entryLines};
+ghost use Rattle.report_laws.specs.how.Marks.{touchedAt, entryLines};
 
-// The number of rules, or 1 where there is none.
-fn some_rules(count: u8) -> usize
-    ensures { λ r. ⌜ r ≡ max count 1 ⌝ }
+// The positions that the sequence of an index reads and writes.
+fn touched_at(set: RuleSet, index: usize) -> Touched
+    ensures { λ r. ⌜ r ≡ touchedAt set index ⌝ }
 {
-    if count < 1 { 1 } else { count as usize }
+    let own = profile_at(set, index);
+    let vectors = own.vectors;
+    touched(wide_positions(set), vectors)
 }
 
-// Lays the rule numbers of the sequence of an index, none, one or two. Of an index that no sequence of two rules has,
-// the first number is taken round.
-fn put_sequence(text: &mut [u8], at: usize, count: u8, index: usize) -> usize
-    ensures { λ r. ⌜ Laid at (sequenceText count index) (now (text .entry)) r (now (text .exit)) ⌝ }
-{
-    let many = some_rules(count);
-    if index < 1 {
-        return at;
-    }
-    if index <= many {
-        return put_number(text, at, index);
-    }
-    let before = index - 1;
-    let first = put_number(text, at, (before / many - 1) % many + 1);
-    let second = put(text, first, b',');
-    put_number(text, second, before % many + 1)
-}
-
-// Lays a line with a key and the sequence of an index.
-fn put_sequence_line(text: &mut [u8], at: usize, key: &[u8], count: u8, index: usize) -> usize
-    ensures { λ r. ⌜
-        Laid at (now (key .entry) ++ sequenceText count index ++ (lineFeed ∷ []))
-        (now (text .entry)) r (now (text .exit)) ⌝ }
-{
-    let sequence = put_word(text, at, key);
-    let end = put_sequence(text, sequence, count, index);
-    put(text, end, b'\n')
-}
-
-// Lays the lines of a mark: a sequence, and the witness that its entry names. Nothing where the sequence is kept.
-pub fn put_mark(text: &mut [u8], at: usize, count: u8, index: usize, entry: usize) -> usize
-    ensures { λ r. ⌜ Laid at (entryLines count index entry) (now (text .entry)) r (now (text .exit)) ⌝ }
+// Lays the lines of a mark: a sequence, the witness that its entry names, and the positions that the sequence reads
+// and writes. Nothing where the sequence is kept.
+pub fn put_mark(text: &mut [u8], at: usize, set: RuleSet, index: usize, entry: usize) -> usize
+    ensures { λ r. ⌜ Laid at (entryLines set index entry) (now (text .entry)) r (now (text .exit)) ⌝ }
 {
     if entry == KEPT {
         return at;
     }
-    let witness = put_sequence_line(text, at, b"drop=", count, index);
-    put_sequence_line(text, witness, b"for=", count, entry)
+    let positions = touched_at(set, index);
+    let witness = put_sequence_line(text, at, b"drop=", set.count, index);
+    let reads = put_sequence_line(text, witness, b"for=", set.count, entry);
+    let writes = put_positions(text, reads, b"reads=", positions.reads);
+    put_positions(text, writes, b"moves=", positions.writes)
 }

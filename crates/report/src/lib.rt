@@ -26,7 +26,7 @@ fn put_built(text: &mut [u8], set: RuleSet, table: &mut [u8]) -> usize
     ensures { λ r. ⌜ Laid 0 (listingOf set) (now (text .entry)) r (now (text .exit)) ⌝ }
 {
     build_table(set, 2, table);
-    put_table(text, set.count, table)
+    put_table(text, set, table)
 }
 
 // Lays the listing of a set. At most 993 sequences have at most two of 31 rules, so 1,986 bytes hold every table.

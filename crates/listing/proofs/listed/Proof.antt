@@ -1,4 +1,4 @@
--- `listing::listed` meets its contract: a listing has at most 20,859 bytes, and an input has that of its front.
+-- `listing::listed` meets its contract: a listing has at most 110,139 bytes, and an input has that of its front.
 -- Assumes nothing.
 use mathlib.Core.Path.{_≡_, sym, ap, _∙_}
 use mathlib.Core.List.{List}
@@ -16,7 +16,7 @@ use Rattle.listing.proofs.listed.Statement.{statement}
 use Rattle.listing.proofs.listed.Tie as tie
 
 -- a buffer that every listing fits holds the whole listing at its front
-shown : (text : List ℕ) (room r : ℕ) (out : List ℕ) → 20859 ≤ room → r ≡ reportLength text room
+shown : (text : List ℕ) (room r : ℕ) (out : List ℕ) → 110139 ≤ room → r ≡ reportLength text room
     → out ≡ reported text room → (r ≤ length out) × (take r out ≡ listing text)
 shown text room r out wide p q =
     let w = report-fits text room (omega (arith, listing-bound text)) in

@@ -1,4 +1,4 @@
--- `mark_output::put_sequence` meets its contract: no rule, one, or two with a comma between them. A rule's number is a
+-- `sequence_output::put_sequence` meets its contract: no rule, one, or two with a comma between them. A rule's number is a
 -- byte, and so has at most three digits.
 -- Assumes nothing.
 use Prim.Native.Nat.{ℕ, _+_, _-_, _/_, _%_, _<_}
@@ -6,8 +6,8 @@ use native.Mathlib.Omega.{arith}
 use borrow.Author.Needs.{needs}
 use Rattle.output_laws.proofs.OverlayLaws.{shown-number, laid-none, laid-append}
 use Rattle.report_laws.proofs.SequenceTextLaws.{text-none, text-one, rule-number, rule-before, text-two}
-use Rattle.mark_output.proofs.put_sequence.Statement.{statement}
-use Rattle.mark_output.proofs.put_sequence.Tie as tie
+use Rattle.sequence_output.proofs.put_sequence.Statement.{statement}
+use Rattle.sequence_output.proofs.put_sequence.Tie as tie
 
 some-rules-requires : tie.Need-some-rules-requires
 some-rules-requires c κs = search needs

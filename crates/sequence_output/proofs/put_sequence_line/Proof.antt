@@ -1,10 +1,10 @@
--- `mark_output::put_sequence_line` meets its contract: the key, the rule numbers and the line feed, laid one after the
+-- `sequence_output::put_sequence_line` meets its contract: the key, the rule numbers and the line feed, laid one after the
 -- other.
 -- Assumes nothing.
 use borrow.Author.Needs.{needs}
 use Rattle.output_laws.proofs.OverlayLaws.{laid-append}
-use Rattle.mark_output.proofs.put_sequence_line.Statement.{statement}
-use Rattle.mark_output.proofs.put_sequence_line.Tie as tie
+use Rattle.sequence_output.proofs.put_sequence_line.Statement.{statement}
+use Rattle.sequence_output.proofs.put_sequence_line.Tie as tie
 
 put-word-requires : tie.Need-put-word-requires
 put-word-requires c κs = search needs
