@@ -11,16 +11,16 @@ use Rattle.table_output.proofs.put_marks.Statement.{statement}
 use Rattle.table_output.proofs.put_marks.Tie as tie
 
 abbrev Inv-loop : tie.InvT-loop
-Inv-loop text₀ at count table entries next₀ i₀ text next i =
-    (i ≤ length table / 2) × Remains at (marksText count table) text₀ next (linesFrom table count i) text
+Inv-loop text₀ at set table entries next₀ i₀ text next i =
+    (i ≤ length table / 2) × Remains at (marksText set table) text₀ next (linesFrom table set i) text
 
 abbrev μ-loop : tie.MeasureT-loop
-μ-loop text₀ at count table entries next₀ i₀ text next i = length table / 2 - i
+μ-loop text₀ at set table entries next₀ i₀ text next i = length table / 2 - i
 
 loop-holds : tie.Need-loop-holds Inv-loop μ-loop
 loop-holds c =
     let s = c .before .before .args in
-    (omega arith, rw (lines-all (s .table .now) (s .count)) (remains-all _ _ _))
+    (omega arith, rw (lines-all (s .table .now) (s .set)) (remains-all _ _ _))
 
 entry-at-requires : tie.Need-entry-at-requires Inv-loop μ-loop
 entry-at-requires c κs = search needs
@@ -44,7 +44,7 @@ loop-again c =
     let turn = read .before in
     let l = turn .before .loop in
     let s = startOf (turn .before) .args in
-    let more = lines-more (s .table .now) (s .count) (l .i) _ (turn .loop-test .taken) (read .entry-at .ensures .0) in
+    let more = lines-more (s .table .now) (s .set) (l .i) _ (turn .loop-test .taken) (read .entry-at .ensures .0) in
     (omega arith, remains-rest (l .inv .1) _ _ more (laid .put-mark .ensures))
 
 same-length : tie.Need-same-length Inv-loop μ-loop
@@ -53,7 +53,7 @@ same-length c = remains-length (c .before .loop .inv .1)
 returns : tie.Need-returns Inv-loop μ-loop
 returns c =
     let s = startOf (c .before) .args in
-    remains-none (c .before .loop .inv .1) (lines-end (s .table .now) (s .count) (c .before .loop .i)
+    remains-none (c .before .loop .inv .1) (lines-end (s .table .now) (s .set) (c .before .loop .i)
     (c .loop-test .left))
 
 pub put-marks-spec : {M : Type 1} → statement M
