@@ -1,6 +1,7 @@
 pub mod OfTextLaws
 pub mod PackedLaws
 pub mod PackedLengthLaws
+pub mod PackedTableLaws
 pub mod TextSearchLaws
 pub mod RewritingLaws
 pub mod TextTableLaws

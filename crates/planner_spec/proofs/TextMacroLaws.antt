@@ -1,6 +1,6 @@
 -- What the macro entry gives of a text that is read and of one that is refused, and what it means.
 -- Assumes nothing.
-use mathlib.Core.Path.{_≡_, refl, sym, ap, subst, _∙_}
+use mathlib.Core.Path.{_≡_, refl, sym, ap, ap₂, subst, _∙_}
 use mathlib.Core.Logic.{_↔_, _≢_, ⊎-elim}
 use mathlib.Core.Bool.{true, false, not}
 use mathlib.Core.List.{List, [], _∷_, _++_}
@@ -16,12 +16,13 @@ use Rattle.model_spec.specs.declared.RuleSet.{RuleSet}
 use Rattle.model_spec.proofs.RefusalLaws.{refusal-append, refusal-before}
 use Rattle.files_spec.specs.Reading.{reading}
 use Rattle.files_spec.proofs.RefusedLaws.{reading-other}
-use Rattle.macros_spec.specs.Answers.{macroCauses, blankMacro, macroWith, macroAnswer, Judged, Admitted, Meaning}
+use Rattle.macros_spec.specs.Answers.{macroCauses, refusedMacro, macroWith, macroAnswer, Judged, Admitted, Meaning}
 use Rattle.macros_spec.specs.declared.Macro.{Macro}
 use Rattle.macros_spec.specs.declared.MacroAnswer.{MacroAnswer}
+use Rattle.macros_spec.specs.declared.Touched.{Touched}
 use Rattle.macros_spec.proofs.MacroLaws.{answer-meaning}
-use Rattle.planner_spec.specs.TextMacro.{macroBytes, macroSize, macroOf, roomCauses, textMacro, macroBuffer}
-use Rattle.planner_spec.specs.TextMacro.{TextMacroMeaning}
+use Rattle.planner_spec.specs.TextMacro.{macroBytes, macroSize, macroOf, touchedAt, roomCauses, textMacro}
+use Rattle.planner_spec.specs.TextMacro.{macroBuffer, TextMacroMeaning}
 use Rattle.planner_spec.proofs.OfTextLaws.{of-read, of-refused, Own, own-refusal, not-7, text-judged}
 use Rattle.planner_spec.proofs.MacroBytesLaws.{buffer-back, blank-bytes, buffer-given, buffer-refused}
 
@@ -125,7 +126,7 @@ answer-sizes : (set : RuleSet) (moves : List ℕ) (a : MacroAnswer) → Meaning 
 answer-sizes set moves a means =
     ⊎-elim (λ e. let f = means .means e .form in (f .conditionLength, f .effectLength))
     (λ h.
-    let blank = means .refused h in
+    let blank = means .refused h .0 in
     (ap (λ (m : Macro). length (m .condition)) blank, ap (λ (m : Macro). length (m .effect)) blank))
     (equal? (a .outcome) 0)
 
@@ -141,7 +142,7 @@ module _ (text moves : List ℕ) (room : ℕ) where
   macro-read = of-read text _ _
 
   pub macro-refused : reading text .outcome ≢ 0
-      → textMacro text moves room ≡ record { outcome = reading text .outcome; result = blankMacro }
+      → textMacro text moves room ≡ refusedMacro (reading text .outcome)
   unfolding textMacro
   macro-refused = of-refused text _ _
 
@@ -153,7 +154,7 @@ module _ (text moves : List ℕ) (room : ℕ) where
       macro-read e ∙ room-same set moves room (room-fitted set moves room ∙ z ∙ sym own)
 
   pub macro-denied : (n : ℕ) → reading text .outcome ≡ 0 → n ≡ fitted (macroAnswer set moves .outcome) room → n ≢ 0
-      → textMacro text moves room ≡ record { outcome = n; result = blankMacro }
+      → textMacro text moves room ≡ refusedMacro n
   macro-denied n e o h =
       macro-read e ∙ ap (macroWith set moves) (room-fitted set moves room ∙ sym o) ∙ rw (ne-eqb n 0 h)
 
@@ -164,23 +165,28 @@ module _ (text moves : List ℕ) (room : ℕ) where
       let same = not-short set moves room (λ z. h (ap outcomeOf (macro-read e) ∙ z)) in
       subst (Meaning set moves) (sym (macro-read e ∙ room-same set moves room same)) (answer-meaning set moves)
 
-  -- with room for a macro, its bytes stand in the buffer, which gives it back
+  -- with room for a macro, its bytes stand in the buffer, which gives it back with its sets
   with-room : reading text .outcome ≡ 0 → macroSize ≤ room
       → let answer = textMacro text moves room in
-      Meaning set moves (record { outcome = answer .outcome; result = macroOf (macroBuffer room answer) })
+      let buffer = macroBuffer room answer in
+      Meaning set moves (record { outcome = answer .outcome; result = macroOf buffer; touched = touchedAt buffer })
   with-room e fits =
       let answer = textMacro text moves room in
       let whole = room-fitted set moves room ∙ fitted-whole (macroAnswer set moves .outcome) room fits in
       let own = sym whole ∙ sym (ap outcomeOf (macro-read e)) in
       let means = read-meaning e (λ z. answer-never-8 set moves room (own ∙ z)) in
       let sizes = answer-sizes set moves answer means in
-      let bytes : macroBuffer room answer ≡ padded room 0 (macroBytes (answer .result)) =
+      let bytesOf : Macro → Touched → List ℕ = λ m touched. padded room 0 (macroBytes m touched) in
+      let bytes : macroBuffer room answer ≡ bytesOf (answer .result) (answer .touched) =
       ⊎-elim (λ z. buffer-given room answer z)
       (λ h. buffer-refused room answer h ∙ sym (blank-bytes room fits)
-      ∙ ap (λ m. padded room 0 (macroBytes m)) (sym (means .refused h)))
+      ∙ ap₂ bytesOf (sym (means .refused h .0)) (sym (means .refused h .1)))
       (equal? (answer .outcome) 0) in
-      let back = ap macroOf bytes ∙ buffer-back room fits (answer .result) (sizes .0) (sizes .1) in
-      subst (λ (m : Macro). Meaning set moves (record { outcome = answer .outcome; result = m })) (sym back) means
+      let back = buffer-back room fits (answer .result) (answer .touched) (sizes .0) (sizes .1) in
+      let result = ap macroOf bytes ∙ back .0 in
+      let touched = ap touchedAt bytes ∙ back .1 in
+      subst (Meaning set moves)
+      (λ i. record { outcome = answer .outcome; result = sym result i; touched = sym touched i }) means
 
   pub text-macro-meaning :
       let answer = textMacro text moves room in
@@ -201,7 +207,7 @@ module _ (text moves : List ℕ) (room : ℕ) where
               (λ h. absurd (reading-other text 8 refl (sym (refused h) ∙ e))) (equal? (reading text .outcome) 0),
           λ w. ap outcomeOf (macro-read (w .0)) ∙ short-iff set moves room .1 (w .1, w .2, w .3),
         );
-        readText = λ e h. (answer .result, refl, read-meaning e h);
+        readText = λ e h. (answer, refl, refl, read-meaning e h);
         readBack = with-room;
         zeros = λ h. buffer-refused room answer h;
         never7 = not-7 text (answer .outcome) refused
