@@ -11,7 +11,7 @@ use Rattle.theory_spec.specs.Lists.{padded}
 use Rattle.model_spec.proofs.BufferLaws.{filled-whole}
 use Rattle.files_spec.specs.Reading.{reading}
 use Rattle.files_spec.specs.declared.Reading.{Reading}
-use Rattle.macros_spec.specs.Answers.{blankMacro, macroAnswer}
+use Rattle.macros_spec.specs.Answers.{refusedMacro, macroAnswer}
 use Rattle.macros_spec.specs.declared.MacroAnswer.{MacroAnswer}
 use Rattle.planner_spec.specs.TextMacro.{macroBytes, macroSize, textMacro, macroBuffer, TextMacroMeaning}
 use Rattle.planner_spec.proofs.MacroBytesLaws.{buffer-given, buffer-refused}
@@ -87,8 +87,8 @@ returns c =
     let room = length (s .args .out .now) in
     let outcome = ap (λ (f : Reading). f .outcome) (file read) in
     let refused = macro-refused (s .args .text .now) (s .args .moves .now) room (λ z. c .if1 .taken (outcome ∙ z)) in
-    let answer : MacroAnswer = record { outcome = read .read .result .outcome; result = blankMacro } in
-    promised s answer _ (refused ∙ (λ i. record { outcome = sym outcome i; result = blankMacro }))
+    let answer = refusedMacro (read .read .result .outcome) in
+    promised s answer _ (refused ∙ ap refusedMacro (sym outcome))
     (zeroed read ∙ sym (buffer-refused room answer (c .if1 .taken)))
 
 macro-of-requires : tie.Need-macro-of-requires
@@ -127,7 +127,7 @@ returns-2 c =
     let read = readOf branch in
     let s = startOf read in
     let room = length (s .args .out .now) in
-    let answer : MacroAnswer = record { outcome = c .before .fitted .result; result = blankMacro } in
+    let answer = refusedMacro (c .before .fitted .result) in
     promised s answer _
     (macro-denied (s .args .text .now) (s .args .moves .now) room _ (taken branch) (refusal (c .before))
     (c .if2 .taken))
@@ -164,11 +164,12 @@ returns-3 c =
     let s = startOf read in
     let room = length (s .args .out .now) in
     let outcome = ap (λ (a : MacroAnswer). a .outcome) (own call) ∙ fits branch .0 in
-    let answer : MacroAnswer = record { outcome = 0; result = call .macro-of .result .result } in
+    let given = call .macro-of .result in
+    let answer : MacroAnswer = record { outcome = 0; result = given .result; touched = given .touched } in
     promised s answer _
     (macro-given (s .args .text .now) (s .args .moves .now) room (taken (call .before)) (passed branch)
-    ∙ sym (own call) ∙ (λ i. record { outcome = outcome i; result = call .macro-of .result .result }))
-    (put .put-macro .ensures ∙ ap (λ n. padded n 0 (macroBytes (answer .result))) (sized read)
+    ∙ sym (own call) ∙ (λ i. record { outcome = outcome i; result = given .result; touched = given .touched }))
+    (put .put-macro .ensures ∙ ap (λ n. padded n 0 (macroBytes (given .result) (given .touched))) (sized read)
     ∙ sym (buffer-given room answer refl))
 
 pub macro-of-spec : {M : Type 1} → statement M

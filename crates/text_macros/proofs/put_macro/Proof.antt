@@ -17,22 +17,23 @@ use Rattle.text_macros.proofs.put_macro.Statement.{statement}
 use Rattle.text_macros.proofs.put_macro.Tie as tie
 
 abbrev Inv-loop : tie.InvT-loop
-Inv-loop m out₀ i₀ out i =
+Inv-loop m touched out₀ i₀ out i =
     (i ≤ length out₀)
     × (length out ≡ length out₀)
-    × (out ≡ copied out₀ (padded (length out₀) 0 (macroBytes m)) i)
+    × (out ≡ copied out₀ (padded (length out₀) 0 (macroBytes m touched)) i)
 
 abbrev μ-loop : tie.MeasureT-loop
-μ-loop m out₀ i₀ out i = length out₀ - i
+μ-loop m touched out₀ i₀ out i = length out₀ - i
 
 -- what the buffer is to hold, which has the buffer's length
 abbrev wholeOf : tie.Start Inv-loop μ-loop → List ℕ
-wholeOf s = padded (length (s .args .out .now)) 0 (macroBytes (s .args .m))
+wholeOf s = padded (length (s .args .out .now)) 0 (macroBytes (s .args .m) (s .args .touched))
 
 sized : (s : tie.Start Inv-loop μ-loop) → length (wholeOf s) ≡ length (s .args .out .now)
 sized s =
     let m = s .args .m in
-    buffer-size (length (s .args .out .now)) (s .pre) m (condition-16 m _ (s .good .0)) (effect-16 m _ (s .good .0))
+    buffer-size (length (s .args .out .now)) (s .pre) m (s .args .touched) (condition-16 m _ (s .good .0))
+    (effect-16 m _ (s .good .0))
 
 abbrev startOf : tie.At-loop Inv-loop μ-loop → tie.Start Inv-loop μ-loop
 startOf c = c .before .before
@@ -58,7 +59,7 @@ loop-again c =
     let out = s .args .out .now in
     let l = c .before .before .loop in
     let h : l .i < length out = omega (arith, l .inv) in
-    let byte = c .macro-byte .ensures ∙ sym (padded-at (length out) (l .i) (macroBytes (s .args .m))) in (
+    let byte = c .macro-byte .ensures ∙ sym (padded-at (length out) (l .i) (macroBytes (s .args .m) (s .args .touched))) in (
       search needs,
       simp length-set (l .inv .1),
       copied-more out (wholeOf s) (l .i) (l .out) _ 0 h (omega (arith, sized s)) (l .inv .2) byte,
