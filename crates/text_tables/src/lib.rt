@@ -1,10 +1,13 @@
 // Pruning tables of a rule text's set. 1 to 4 of the text come before all else.
 use buffers::fill_from;
+use macros_spec::Touched;
 use reader::read;
 use tables_spec::TableSize;
+use unions_spec::TableAnswer;
 ghost use mathlib.Core.Path.{_≡_};
 ghost use lib.ListN.{length};
-ghost use Rattle.planner_spec.specs.TextTables.{textTableSize, textBuildOutcome, textBuiltBuffer, textCheckOutcome};
+ghost use Rattle.planner_spec.specs.TextTables.{textTableSize, refusedTable};
+ghost use Rattle.planner_spec.specs.TextTables.{textBuildAnswer, textBuiltBuffer, textCheckAnswer};
 ghost use Rattle.planner_spec.specs.TextTables.{TextSizeMeaning, TextBuildMeaning, TextCheckMeaning};
 
 // How long a table is; a refused text has no length.
@@ -23,32 +26,45 @@ pub fn table_size(text: &[u8], reach: usize) -> TableSize
     table_sizes::table_size(file.set, reach)
 }
 
-// Builds the table, or zeroes it.
-pub fn build_table(text: &[u8], reach: usize, table: &mut [u8]) -> u8
+// The answer for a refused text: its outcome, and no positions.
+fn refused(outcome: u8) -> TableAnswer
+    ensures { λ r. ⌜ r ≡ refusedTable outcome ⌝ }
+{
+    TableAnswer {
+        outcome,
+        touched: Touched {
+            reads: 0,
+            writes: 0,
+        },
+    }
+}
+
+// Builds the table, or zeroes it; tells the positions that its marked sequences read and write.
+pub fn build_table(text: &[u8], reach: usize, table: &mut [u8]) -> TableAnswer
     ensures { λ r. ⌜
         (let size = length (now (table .entry)) in
-        (r ≡ textBuildOutcome (now (text .entry)) reach size)
+        (r ≡ textBuildAnswer (now (text .entry)) reach size)
         × (now (table .exit) ≡ textBuiltBuffer (now (text .entry)) reach size)
         × TextBuildMeaning (now (text .entry)) reach size r (now (table .exit))) ⌝ }
 {
     let file = read(text);
     if file.outcome != 0 {
         fill_from(table, 0, 0);
-        return file.outcome;
+        return refused(file.outcome);
     }
     builder::build_table(file.set, reach, table)
 }
 
-// Checks a table, whoever made it.
-pub fn check_table(text: &[u8], reach: usize, table: &[u8]) -> u8
+// Checks a table, whoever made it; tells the positions that its marked sequences read and write.
+pub fn check_table(text: &[u8], reach: usize, table: &[u8]) -> TableAnswer
     ensures { λ r. ⌜
-        (r ≡ textCheckOutcome (now (text .entry)) reach (now (table .entry)))
+        (r ≡ textCheckAnswer (now (text .entry)) reach (now (table .entry)))
         × TextCheckMeaning (now (text .entry)) reach (now (table .entry)) r ⌝ }
 {
     let file = read(text);
     let refusal = file.outcome;
     if refusal != 0 {
-        return refusal;
+        return refused(refusal);
     }
     checker::check_table(file.set, reach, table)
 }

@@ -8,17 +8,19 @@ use lib.ListN.{length}
 use borrow.Author.Needs.{needs}
 use Rattle.model_spec.proofs.BufferLaws.{filled-whole}
 use Rattle.files_spec.specs.declared.Reading.{Reading}
-use Rattle.tables_spec.specs.Answers.{buildOutcome, builtBuffer}
-use Rattle.planner_spec.specs.TextTables.{textBuildOutcome, textBuiltBuffer, TextBuildMeaning}
+use Rattle.tables_spec.specs.Answers.{builtBuffer}
+use Rattle.unions_spec.specs.Unions.{buildAnswer}
+use Rattle.unions_spec.specs.declared.TableAnswer.{TableAnswer}
+use Rattle.planner_spec.specs.TextTables.{refusedTable, textBuildAnswer, textBuiltBuffer, TextBuildMeaning}
 use Rattle.planner_spec.proofs.TextTableLaws.{build-read, build-refused, text-build-meaning}
 use Rattle.text_tables.proofs.build_table.Statement.{statement}
 use Rattle.text_tables.proofs.build_table.Tie as tie
 
--- the definitions' outcome and table have their meaning
-answers : (text : List ℕ) (reach size r : ℕ) (table : List ℕ)
-    → r ≡ textBuildOutcome text reach size
+-- the definitions' answer and table have their meaning
+answers : (text : List ℕ) (reach size : ℕ) (r : TableAnswer) (table : List ℕ)
+    → r ≡ textBuildAnswer text reach size
     → table ≡ textBuiltBuffer text reach size
-    → (r ≡ textBuildOutcome text reach size)
+    → (r ≡ textBuildAnswer text reach size)
     × (table ≡ textBuiltBuffer text reach size)
     × TextBuildMeaning text reach size r table
 answers text reach size r table e t = (e, t, rw (e, t) (text-build-meaning text reach size))
@@ -29,12 +31,15 @@ read-requires c κs = search needs
 fill-from-requires : tie.Need-fill-from-requires
 fill-from-requires c κs = search needs
 
+refused-requires : tie.Need-refused-requires
+refused-requires c κs = search needs
+
 same-length : tie.Need-same-length
 same-length c = search needs
 
 returns : tie.Need-returns
 returns c =
-    let zeroed = c .before .before in
+    let zeroed = c .before .before .before in
     let branch = zeroed .before .before in
     let file = branch .before .before in
     let s = file .before .before .before .args in
@@ -42,7 +47,7 @@ returns c =
     let size = length (s .table .now) in
     let e = ap (λ (r : Reading). r .outcome) (file .read .ensures .0) in
     let w = build-refused text (s .reach) size (λ z. branch .if1 .taken (e ∙ z)) in
-    answers text (s .reach) size _ _ (e ∙ sym (w .0))
+    answers text (s .reach) size _ _ (c .refused .ensures ∙ ap refusedTable e ∙ sym (w .0))
     (zeroed .fill-from .ensures ∙ filled-whole 0 (s .table .now) ∙ sym (w .1))
 
 build-table-requires : tie.Need-build-table-requires
@@ -63,7 +68,7 @@ returns-2 c =
     let same = ap (λ (r : Reading). r .set) (file .read .ensures .0) in
     let w = build-read text (s .reach) size (sym e ∙ branch .if1 .left) in
     answers text (s .reach) size _ _
-    (built .build-table .ensures .0 ∙ ap (λ set. buildOutcome set (s .reach) size) same ∙ sym (w .0))
+    (built .build-table .ensures .0 ∙ ap (λ set. buildAnswer set (s .reach) size) same ∙ sym (w .0))
     (built .build-table .ensures .1 ∙ ap (λ set. builtBuffer set (s .reach) size) same ∙ sym (w .1))
 
 pub build-table-spec : {M : Type 1} → statement M
@@ -72,6 +77,7 @@ build-table-spec =
     (tie.spec
     read-requires
     fill-from-requires
+    refused-requires
     same-length
     returns
     build-table-requires
