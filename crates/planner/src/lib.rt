@@ -1,6 +1,7 @@
 // The entries that C programs call. All take a rule text; 1 to 4 of the text come before all else.
 use packing::pack;
 use packing::pack_length;
+use packing::pack_table;
 use text_search::search_text;
 ghost use mathlib.Core.Path.{_≡_};
 ghost use Prim.Native.Nat.{_/_, _%_};
@@ -13,7 +14,8 @@ ghost use Rattle.search_spec.specs.Query.{asked};
 ghost use Rattle.search_spec.specs.Searched.{Searched};
 ghost use Rattle.planner_spec.specs.Packed.{unpacked, searchedText, packedSearch};
 ghost use Rattle.planner_spec.specs.Rewriting.{rewrittenBuffer, packedRewritten, RewriteMeaning};
-ghost use Rattle.planner_spec.specs.TextTables.{packedTableSize, textBuildOutcome, textBuiltBuffer, textCheckOutcome};
+ghost use Rattle.planner_spec.specs.PackedTable.{packedTable, unpackedTable};
+ghost use Rattle.planner_spec.specs.TextTables.{packedTableSize, textBuildAnswer, textBuiltBuffer, textCheckAnswer};
 ghost use Rattle.planner_spec.specs.TextTables.{TextSizeMeaning, TextBuildMeaning, TextCheckMeaning};
 ghost use Rattle.planner_spec.specs.TextMacro.{textMacro, macroBuffer, TextMacroMeaning};
 ghost use Rattle.planner_spec.specs.TextSearch.{TextSearchMeaning};
@@ -55,29 +57,33 @@ pub extern "C" fn planner_table_size(rules: &[u8], reach: usize) -> u64
     pack_length(size.outcome, size.length)
 }
 
-// Builds the table, or zeroes it.
+// Builds the table, or zeroes it: the outcome in the low byte, the positions that the marked sequences read in bits 16
+// to 31, those that they write in bits 32 to 47.
 #[no_mangle]
-pub extern "C" fn planner_build_table(rules: &[u8], table: &mut [u8], reach: usize) -> u8
+pub extern "C" fn planner_build_table(rules: &[u8], table: &mut [u8], reach: usize) -> u64
     ensures { λ r. ⌜
         (let size = length (now (table .entry)) in
-        (r ≡ textBuildOutcome (now (rules .entry)) reach size)
+        (r ≡ packedTable (textBuildAnswer (now (rules .entry)) reach size))
         × (now (table .exit) ≡ textBuiltBuffer (now (rules .entry)) reach size)
-        × TextBuildMeaning (now (rules .entry)) reach size r (now (table .exit))) ⌝ }
+        × TextBuildMeaning (now (rules .entry)) reach size (unpackedTable r) (now (table .exit))) ⌝ }
 {
-    text_tables::build_table(rules, reach, table)
+    let answer = text_tables::build_table(rules, reach, table);
+    pack_table(answer)
 }
 
-// Checks a table, whoever made it.
+// Checks a table, whoever made it; the answer is packed as the builder's.
 #[no_mangle]
-pub extern "C" fn planner_check_table(rules: &[u8], table: &[u8], reach: usize) -> u8
+pub extern "C" fn planner_check_table(rules: &[u8], table: &[u8], reach: usize) -> u64
     ensures { λ r. ⌜
-        (r ≡ textCheckOutcome (now (rules .entry)) reach (now (table .entry)))
-        × TextCheckMeaning (now (rules .entry)) reach (now (table .entry)) r ⌝ }
+        (r ≡ packedTable (textCheckAnswer (now (rules .entry)) reach (now (table .entry))))
+        × TextCheckMeaning (now (rules .entry)) reach (now (table .entry)) (unpackedTable r) ⌝ }
 {
-    text_tables::check_table(rules, reach, table)
+    let answer = text_tables::check_table(rules, reach, table);
+    pack_table(answer)
 }
 
-// The macro of a sequence of rule numbers, as bytes; zeros when refused, also where the buffer is too short.
+// The macro of a sequence of rule numbers, with the positions that it reads and writes, as bytes; zeros when refused,
+// also where the buffer is too short.
 #[no_mangle]
 pub extern "C" fn planner_macro(rules: &[u8], moves: &[u8], out: &mut [u8]) -> u8
     ensures { λ r. ⌜
