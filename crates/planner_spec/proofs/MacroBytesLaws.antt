@@ -1,7 +1,7 @@
 -- A macro's bytes: which byte stands where, that the macro and its sets can be read back from them, and what a buffer
 -- holds after an answer.
 -- Assumes nothing.
-use mathlib.Core.Path.{_≡_, sym, ap, _∙_}
+use mathlib.Core.Path.{_≡_, sym, ap, ap₂, _∙_}
 use mathlib.Core.Logic.{_≢_, ⊎-elim}
 use mathlib.Core.List.{List, _++_, append-assoc}
 use Prim.Native.Nat.{ℕ, _+_, _-_, _/_, _%_, _≤_, _<_}
@@ -38,17 +38,11 @@ module _ (m : Macro) (touched : Touched)
   pub bytes-38 : length (macroBytes m touched) ≡ 38
   unfolding macroBytes
   bytes-38 =
-      omega (
-        arith,
-        length-append (m .condition) behindCondition,
-        length-append (m .effect) numberBytes,
-        conditionSize,
-        effectSize,
-      )
+      length-append (m .condition) _ ∙ ap₂ _+_ conditionSize (length-append (m .effect) _ ∙ ap (λ n. n + 6) effectSize)
 
   pub byte-condition : (i : ℕ) → i < 16 → getD (macroBytes m touched) i 0 ≡ getD (m .condition) i 0
   unfolding macroBytes
-  byte-condition i h = List·getD-append (m .condition) behindCondition 0 i (omega (arith, conditionSize))
+  byte-condition i h = List·getD-append (m .condition) _ 0 i (omega (arith, conditionSize))
 
   behind : (i : ℕ) → 16 ≤ i → getD (macroBytes m touched) i 0 ≡ getD behindCondition (i - 16) 0
   unfolding macroBytes
