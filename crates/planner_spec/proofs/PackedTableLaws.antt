@@ -13,7 +13,7 @@ pub record TableFits (answer : TableAnswer) : Type 0 where
   pub writes : answer .touched .writes < 65536
 
 module _ (answer : TableAnswer) (fits : TableFits answer) where
-  packed-outcome : packedTable answer % 256 ≡ answer .outcome
+  packed-outcome : packedTable answer % 65536 ≡ answer .outcome
   unfolding packedTable
   packed-outcome = omega (arith, fits .outcome)
 
@@ -21,7 +21,7 @@ module _ (answer : TableAnswer) (fits : TableFits answer) where
   unfolding packedTable
   packed-reads = omega (arith, fits .outcome, fits .reads)
 
-  packed-writes : packedTable answer / 4294967296 % 65536 ≡ answer .touched .writes
+  packed-writes : packedTable answer / 4294967296 ≡ answer .touched .writes
   unfolding packedTable
   packed-writes = omega (arith, fits .outcome, fits .reads, fits .writes)
 
