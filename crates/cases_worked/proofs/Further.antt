@@ -1,12 +1,14 @@
 -- Cases that P1 to P11 do not tell apart from a faulty planner, worked by hand, by evaluation: faults of source
--- document 003, costs, ties, order of refusals.
--- And the listing of E, the packed answer of P1, the plan part and the tally.
+-- document 003, positions read and written, costs, ties, order of refusals.
+-- And listings, the packed answer of P1, the plan part and the tally.
 use Prim.Native.Nat.{ℕ}
+use Prim.Native.String.{String}
 use mathlib.Core.Path.{_≡_, refl}
 use mathlib.Core.Bool.{true, false}
 use mathlib.Core.Option.{some, none}
 use mathlib.Core.List.{List, [], _∷_, _++_, map}
 use lib.ListN.{replicate}
+use Rattle.theory_spec.specs.Sets.{has, setOf}
 use Rattle.model_spec.specs.States.{valueOf, valuesOf, applicable, successor, width, states}
 use Rattle.model_spec.specs.Rules.{emptySet, ruleAt, stepOf, ruleCost, statesOf, runIn, sequenceCost, admitted}
 use Rattle.model_spec.specs.Rules.{redundant}
@@ -20,11 +22,13 @@ use Rattle.files_spec.specs.Reading.{entry, sizeItem, conditionItem, effectItem
 use Rattle.files_spec.specs.Reading.{ruleLines, rulesAfter, ruleList, fileLines, finished, reading}
 use Rattle.macros_spec.specs.Composition.{ownVariables, emptyLines, replaced, clash, equated, unified, followed}
 use Rattle.macros_spec.specs.Composition.{extended, composedFrom, composed}
-use Rattle.macros_spec.specs.Answers.{macroCauses, macroAnswer}
+use Rattle.macros_spec.specs.Touched.{namedElsewhere, readAt, writtenAt, manyValued, touchedBy}
+use Rattle.macros_spec.specs.Answers.{macroCauses, touchedIn, macroAnswer}
 use Rattle.macros_spec.specs.Redundancy.{covers, redundantByLines}
 use Rattle.tables_spec.specs.Table.{tableEntries, sequenceAt, entryAt, marked, builtEntry, builtTable, entryJustified}
 use Rattle.tables_spec.specs.Table.{accepted}
 use Rattle.tables_spec.specs.Answers.{tableCauses, buildOutcome, builtBuffer, checkCauses, checkOutcome}
+use Rattle.unions_spec.specs.Unions.{markedSequences, unionOf, tableTouched, buildAnswer, checkAnswer}
 use Rattle.search_spec.specs.Query.{Query, startFits, goalFits, meetsGoal, visitedBy, plansFor}
 use Rattle.search_spec.specs.Searched.{queryCauses, cheapestPlan, searchCauses, shownPlan, searchedWith, searched}
 use Rattle.search_spec.specs.PlanPart.{planPart}
@@ -33,22 +37,22 @@ use Rattle.search_spec.specs.declared.Tally.{Tally}
 use Rattle.planner_spec.specs.OfText.{ofText}
 use Rattle.planner_spec.specs.Packed.{packed, textRefused, searchedText, packedSearch}
 use Rattle.report_spec.specs.Listing.{markedIndices, markLines, listingOf, listing}
-use Rattle.cases_worked.proofs.Worked.{setOf, fileE, E, Question, search, macroOf, compose, build, check, list}
-use Rattle.cases_worked.proofs.Worked.{enter, Reply, composes, vectors, builds, checks, lists, packs, reply, Row}
-use Rattle.cases_worked.proofs.Worked.{told, keptBytes, markBytes}
+use Rattle.cases_worked.proofs.Worked.{ruleSet, fileE, E, Question, search, macroOf, compose, touch, build}
+use Rattle.cases_worked.proofs.Worked.{check, list, enter, Reply, composes, vectors, touches, builds, checks}
+use Rattle.cases_worked.proofs.Worked.{lists, packs, reply, Row, told, answer, keptBytes, markBytes, tableE}
 
 -- ── Macros ───────────────────────────────────────────────────────────────────────────────────────
 
 -- a swap, then a rule that asks for equal values: source document 003's case 2(b) as printed would add no condition
 abbrev swapped : RuleSet
-swapped = setOf "positions=2\nsizes=3,3\nrules=2\ncost=1\nif=x1,x2\nthen=x2,x1\ncost=2\nif=x1,x1\nthen=0,x1\n"
+swapped = ruleSet "positions=2\nsizes=3,3\nrules=2\ncost=1\nif=x1,x2\nthen=x2,x1\ncost=2\nif=x1,x1\nthen=0,x1\n"
 
 -- run twice it asks two constants of one variable: the effects before a replacement would lose the second
 abbrev twice : RuleSet
-twice = setOf "positions=3\nsizes=4,4,4\nrules=1\ncost=1\nif=0,1,x3\nthen=x3,x3,3\n"
+twice = ruleSet "positions=3\nsizes=4,4,4\nrules=1\ncost=1\nif=0,1,x3\nthen=x3,x3,3\n"
 
-abbrev composed-to : List ℕ → List ℕ → ℕ → Reply
-composed-to condition effect cost =
+abbrev composed-to : List ℕ → List ℕ → ℕ → ℕ → ℕ → Reply
+composed-to condition effect cost reads writes =
     composes (record {
       outcome = 0;
       result = record {
@@ -57,6 +61,7 @@ composed-to condition effect cost =
             ++ replicate 14 0;
         cost = cost;
       };
+      touched = record { reads = reads; writes = writes };
     })
 
 abbrev macro-refused : ℕ → Reply
@@ -65,13 +70,16 @@ macro-refused outcome =
       outcome = outcome;
       result =
           record { condition = replicate 16 0; effect = replicate 16 0; cost = 0 };
+      touched =
+          record { reads = 0; writes = 0 };
     })
 
 abbrev macros : List Row
 macros =
-    record { asked = macroOf swapped (1 ∷ 2 ∷ []); expected = composed-to (16 ∷ 16 ∷ []) (0 ∷ 16 ∷ []) 3 }
-    ∷ record { asked = macroOf swapped (1 ∷ 1 ∷ []); expected = composed-to (16 ∷ 17 ∷ []) (16 ∷ 17 ∷ []) 2 }
-    ∷ record { asked = macroOf swapped []; expected = composed-to (16 ∷ 17 ∷ []) (16 ∷ 17 ∷ []) 0 }
+    record { asked = macroOf swapped (1 ∷ 2 ∷ []); expected = composed-to (16 ∷ 16 ∷ []) (0 ∷ 16 ∷ []) 3 3 1 }
+    -- a swap twice touches nothing, though each of its rules does
+    ∷ record { asked = macroOf swapped (1 ∷ 1 ∷ []); expected = composed-to (16 ∷ 17 ∷ []) (16 ∷ 17 ∷ []) 2 0 0 }
+    ∷ record { asked = macroOf swapped []; expected = composed-to (16 ∷ 17 ∷ []) (16 ∷ 17 ∷ []) 0 0 0 }
     ∷ record { asked = macroOf twice (1 ∷ 1 ∷ []); expected = macro-refused 17 }
     -- the outcome goes by the states, so the composition is asked by itself
     ∷ record { asked = compose twice (1 ∷ 1 ∷ []); expected = vectors none }
@@ -88,46 +96,129 @@ macros =
     ∷ record { asked = macroOf emptySet (replicate 33 0); expected = macro-refused 7 }
     ∷ []
 
+-- ── Positions read and written ───────────────────────────────────────────────────────────────────
+
+-- a copy, a link that is cut, a link that is kept, an idle rule, a swap
+abbrev kinds : RuleSet
+kinds =
+    reading
+    (bytes "positions=2\nsizes=3,3\nrules=5\n"
+    ++ bytes "cost=1\nif=x1,x2\nthen=x2,x2\n"
+    ++ bytes "cost=1\nif=x1,x1\nthen=x1,0\n"
+    ++ bytes "cost=1\nif=x1,x1\nthen=x1,x1\n"
+    ++ bytes "cost=1\nif=x1,x2\nthen=x1,x2\n"
+    ++ bytes "cost=1\nif=x1,x2\nthen=x2,x1\n") .set
+
+-- position 1 holds 0; 16 holds what 15 holds, and is set to 1
+abbrev sixteen : RuleSet
+sixteen =
+    reading
+    (bytes "positions=16\nsizes=2,2,2,2,2,2,2,2,2,2,2,2,2,2,2,2\nrules=1\ncost=1\n"
+    ++ bytes "if=0,x2,x3,x4,x5,x6,x7,x8,x9,x10,x11,x12,x13,x14,x15,x15\n"
+    ++ bytes "then=0,x2,x3,x4,x5,x6,x7,x8,x9,x10,x11,x12,x13,x14,x15,1\n") .set
+
+-- planners that pass E and P6 fail these: beside a case, what such a one says
+abbrev positions : List Row
+positions =
+    -- `x1,x2` to `x2,x2` reads 2 and writes 1. Wrong: it reads 1 too, by its own `then` entry; it reads nothing, as no
+    -- `then` entry counts; it writes nothing, as only constants count
+    record { asked = macroOf kinds (1 ∷ []); expected = composed-to (16 ∷ 17 ∷ []) (17 ∷ 17 ∷ []) 1 2 1 }
+    -- `x1,x1` to `x1,0` reads 1 and 2, and writes 2. Wrong: it reads 2 alone, as no other position's `if` entry counts;
+    -- it reads 1 alone, as of a position's own only a constant counts
+    ∷ record { asked = macroOf kinds (2 ∷ []); expected = composed-to (16 ∷ 16 ∷ []) (16 ∷ 0 ∷ []) 1 3 2 }
+    -- `x1,x1` to `x1,x1` reads 1 and 2. Wrong: it reads nothing, as it changes nothing
+    ∷ record { asked = macroOf kinds (3 ∷ []); expected = composed-to (16 ∷ 16 ∷ []) (16 ∷ 16 ∷ []) 1 3 0 }
+    ∷ record { asked = macroOf kinds (4 ∷ []); expected = composed-to (16 ∷ 17 ∷ []) (16 ∷ 17 ∷ []) 1 0 0 }
+    ∷ record { asked = macroOf kinds (5 ∷ []); expected = composed-to (16 ∷ 17 ∷ []) (17 ∷ 16 ∷ []) 1 3 3 }
+    -- no state admits it. Wrong: it reads 1, 2 and 3, by the zeros of a refused macro
+    ∷ record { asked = touch twice (1 ∷ 1 ∷ []); expected = touches (record { reads = 0; writes = 0 }) }
+    -- it reads 1, 15 and 16, and writes 16
+    ∷ record { asked = touch sixteen (1 ∷ []); expected = touches (record { reads = 49153; writes = 32768 }) }
+    ∷ []
+
 -- ── Tables ───────────────────────────────────────────────────────────────────────────────────────
 
 -- rule 2 does in some states what rule 1 does in all: it is marked where it costs no less
 abbrev dearFirst : RuleSet
-dearFirst = setOf "positions=1\nsizes=3\nrules=2\ncost=5\nif=x1\nthen=0\ncost=1\nif=1\nthen=0\n"
+dearFirst = ruleSet "positions=1\nsizes=3\nrules=2\ncost=5\nif=x1\nthen=0\ncost=1\nif=1\nthen=0\n"
+
+abbrev fileCheapFirst : String
+fileCheapFirst = "positions=1\nsizes=3\nrules=2\ncost=1\nif=x1\nthen=0\ncost=5\nif=1\nthen=0\n"
 
 abbrev cheapFirst : RuleSet
-cheapFirst = setOf "positions=1\nsizes=3\nrules=2\ncost=1\nif=x1\nthen=0\ncost=5\nif=1\nthen=0\n"
+cheapFirst = ruleSet fileCheapFirst
 
 -- no state admits rule 1 twice, at cost 2, nor rule 2 twice, at cost 0
 abbrev flip : RuleSet
-flip = setOf "positions=1\nsizes=2\nrules=2\ncost=1\nif=0\nthen=1\ncost=0\nif=1\nthen=0\n"
+flip = ruleSet "positions=1\nsizes=2\nrules=2\ncost=1\nif=0\nthen=1\ncost=0\nif=1\nthen=0\n"
+
+-- no state admits two of its rules in turn
+abbrev once : RuleSet
+once = ruleSet "positions=2\nsizes=2,2\nrules=2\ncost=1\nif=0,x2\nthen=1,x2\ncost=1\nif=0,x2\nthen=1,0\n"
+
+-- a table that is accepted, and one that is refused
+abbrev accepts : ℕ → ℕ → Reply
+accepts reads writes = checks (answer 0 reads writes)
+
+abbrev rejects : ℕ → Reply
+rejects outcome = checks (answer outcome 0 0)
+
+abbrev build-refused : ℕ → ℕ → Reply
+build-refused outcome size = builds (answer outcome 0 0) (replicate size 0)
 
 abbrev tables : List Row
 tables =
-    record { asked = build dearFirst 1 6; expected = builds 0 (keptBytes ++ keptBytes ++ keptBytes) }
-    ∷ record { asked = build cheapFirst 1 6; expected = builds 0 (keptBytes ++ keptBytes ++ markBytes 1) }
-    ∷ record { asked = build cheapFirst 1 5; expected = builds 6 (replicate 5 0) }
-    ∷ record { asked = build cheapFirst 0 6; expected = builds 5 (replicate 6 0) }
-    ∷ record { asked = build cheapFirst 4 6; expected = builds 5 (replicate 6 0) }
-    ∷ record { asked = build emptySet 0 6; expected = builds 7 (replicate 6 0) }
-    ∷ record { asked = check flip 2 (replicate 14 255); expected = checks 0 }
+    record { asked = build dearFirst 1 6; expected = builds (answer 0 0 0) (keptBytes ++ keptBytes ++ keptBytes) }
+    ∷ record { asked = build cheapFirst 1 6; expected = builds (answer 0 1 1) (keptBytes ++ keptBytes ++ markBytes 1) }
+    ∷ record { asked = build cheapFirst 1 5; expected = build-refused 6 5 }
+    ∷ record { asked = build cheapFirst 0 6; expected = build-refused 5 6 }
+    ∷ record { asked = build cheapFirst 4 6; expected = build-refused 5 6 }
+    ∷ record { asked = build emptySet 0 6; expected = build-refused 7 6 }
+    ∷ record { asked = check flip 2 (replicate 14 255); expected = accepts 0 0 }
     -- (2,2), which no state admits: the empty sequence costs no more, rule 1 does
-    ∷ record { asked = check flip 2 (replicate 12 255 ++ markBytes 0); expected = checks 0 }
-    ∷ record { asked = check flip 2 (replicate 12 255 ++ markBytes 1); expected = checks 14 }
+    ∷ record { asked = check flip 2 (replicate 12 255 ++ markBytes 0); expected = accepts 0 0 }
+    ∷ record { asked = check flip 2 (replicate 12 255 ++ markBytes 1); expected = rejects 14 }
     -- (1,1), which no state admits: by rule 1, by itself, and by the later (1,2)
-    ∷ record { asked = check flip 2 (replicate 6 255 ++ markBytes 1 ++ replicate 6 255); expected = checks 0 }
-    ∷ record { asked = check flip 2 (replicate 6 255 ++ markBytes 3 ++ replicate 6 255); expected = checks 14 }
-    ∷ record { asked = check flip 2 (replicate 6 255 ++ markBytes 4 ++ replicate 6 255); expected = checks 14 }
-    -- (1,2) by the empty sequence, and by (1,1), which no state admits
-    ∷ record { asked = check flip 2 (replicate 8 255 ++ markBytes 0 ++ replicate 4 255); expected = checks 0 }
-    ∷ record { asked = check flip 2 (replicate 8 255 ++ markBytes 3 ++ replicate 4 255); expected = checks 14 }
+    ∷ record { asked = check flip 2 (replicate 6 255 ++ markBytes 1 ++ replicate 6 255); expected = accepts 0 0 }
+    ∷ record { asked = check flip 2 (replicate 6 255 ++ markBytes 3 ++ replicate 6 255); expected = rejects 14 }
+    ∷ record { asked = check flip 2 (replicate 6 255 ++ markBytes 4 ++ replicate 6 255); expected = rejects 14 }
+    -- (1,2), `0` to `0`, by the empty sequence, and by (1,1), which no state admits
+    ∷ record { asked = check flip 2 (replicate 8 255 ++ markBytes 0 ++ replicate 4 255); expected = accepts 1 0 }
+    ∷ record { asked = check flip 2 (replicate 8 255 ++ markBytes 3 ++ replicate 4 255); expected = rejects 14 }
     -- entry 0 is not kept; a value that is no index
-    ∷ record { asked = check flip 2 (markBytes 0 ++ replicate 12 255); expected = checks 14 }
-    ∷ record { asked = check flip 2 (replicate 12 255 ++ (254 ∷ 255 ∷ [])); expected = checks 14 }
-    ∷ record { asked = check flip 2 (replicate 13 255); expected = checks 6 }
+    ∷ record { asked = check flip 2 (markBytes 0 ++ replicate 12 255); expected = rejects 14 }
+    ∷ record { asked = check flip 2 (replicate 12 255 ++ (254 ∷ 255 ∷ [])); expected = rejects 14 }
+    ∷ record { asked = check flip 2 (replicate 13 255); expected = rejects 6 }
     -- a swap, which leaves states of equal values as they are, is not idle; nor is rule 2, on the state 0,0 alone
-    ∷ record { asked = build swapped 1 6; expected = builds 0 (keptBytes ++ keptBytes ++ keptBytes) }
-    ∷ record { asked = check swapped 1 (keptBytes ++ markBytes 0 ++ keptBytes); expected = checks 14 }
-    ∷ record { asked = check swapped 1 (keptBytes ++ keptBytes ++ markBytes 0); expected = checks 14 }
+    ∷ record { asked = build swapped 1 6; expected = builds (answer 0 0 0) (keptBytes ++ keptBytes ++ keptBytes) }
+    ∷ record { asked = check swapped 1 (keptBytes ++ markBytes 0 ++ keptBytes); expected = rejects 14 }
+    ∷ record { asked = check swapped 1 (keptBytes ++ keptBytes ++ markBytes 0); expected = rejects 14 }
+    ∷ []
+
+-- planners that pass E and P6 fail these: beside a case, what such a one says. One that looks at the last mark alone
+-- fails the table of E, where that mark writes 2 alone
+abbrev unions : List Row
+unions =
+    -- no state admits what is marked. Wrong: 1 and 2 are read, by the zeros of refused macros; 1 is read, and 1 and 2
+    -- are written, by what is kept
+    record { asked = build once 2 14; expected = builds (answer 0 0 0) (replicate 6 255 ++ replicate 8 0) }
+    ∷ record { asked = check once 2 (replicate 6 255 ++ replicate 8 0); expected = accepts 0 0 }
+    -- rule 2, `1` to `0`, is marked: it reads and writes 1. Wrong: nothing is read, as by its witness, or by what is
+    -- kept
+    ∷ record { asked = check cheapFirst 1 (replicate 4 255 ++ markBytes 1); expected = accepts 1 1 }
+    -- nothing is marked. Wrong: 1 and 2 are written, by what is kept
+    ∷ record { asked = build E 1 6; expected = builds (answer 0 0 0) (replicate 6 255) }
+    -- (1,1) alone is marked. Wrong: 1 and 2 are written, as of the built table
+    ∷ record { asked = check E 2 (replicate 6 255 ++ markBytes 1 ++ replicate 6 255); expected = accepts 0 1 }
+    -- (1,1) is marked rightly, (1,2) wrongly. Wrong: 1 is written, by the marks before the fault
+    ∷ record {
+      asked =
+          check E 2 (replicate 6 255 ++ markBytes 1 ++ markBytes 0 ++ replicate 4 255);
+      expected = rejects 14;
+    }
+    -- one byte more than E's table, and one less
+    ∷ record { asked = check E 2 (tableE ++ (0 ∷ [])); expected = rejects 6 }
+    ∷ record { asked = build E 2 13; expected = build-refused 6 13 }
     ∷ []
 
 -- ── Searches ─────────────────────────────────────────────────────────────────────────────────────
@@ -135,11 +226,12 @@ tables =
 -- two plans of cost 2: (3), and (1,2), which a depth-first search meets first
 abbrev tied : RuleSet
 tied =
-    setOf "positions=2\nsizes=2,2\nrules=3\ncost=1\nif=0,x2\nthen=1,x2\ncost=1\nif=1,0\nthen=1,1\ncost=2\nif=0,0\nthen=1,1\n"
+    ruleSet
+    "positions=2\nsizes=2,2\nrules=3\ncost=1\nif=0,x2\nthen=1,x2\ncost=1\nif=1,0\nthen=1,1\ncost=2\nif=0,0\nthen=1,1\n"
 
 -- the first goal state met, by rule 1, is not the cheapest
 abbrev dear : RuleSet
-dear = setOf "positions=1\nsizes=3\nrules=3\ncost=9\nif=0\nthen=2\ncost=1\nif=0\nthen=1\ncost=1\nif=1\nthen=2\n"
+dear = ruleSet "positions=1\nsizes=3\nrules=3\ncost=9\nif=0\nthen=2\ncost=1\nif=0\nthen=1\ncost=1\nif=1\nthen=2\n"
 
 -- a query at reach 1 with a table that keeps all of three rules
 abbrev unpruned : RuleSet → List ℕ → List ℕ → ℕ → ℕ → ℕ → Question
@@ -228,7 +320,21 @@ texts =
     record {
       asked = list fileE;
       expected = lists
-          (bytes "reach=2\nrules=2\nmarks=3\ndrop=1,1\nfor=1\ndrop=2,1\nfor=1,2\ndrop=2,2\nfor=2\n");
+          (bytes "reach=2\nrules=2\nmarks=3\n"
+          ++ bytes "drop=1,1\nfor=1\nreads=\nmoves=1\n"
+          ++ bytes "drop=2,1\nfor=1,2\nreads=\nmoves=1,2\n"
+          ++ bytes "drop=2,2\nfor=2\nreads=\nmoves=2\n");
+    }
+    -- rule 2 reads 1, and its witness does not; no state admits (1,2), nor (2,2)
+    ∷ record {
+      asked = list fileCheapFirst;
+      expected = lists
+          (bytes "reach=2\nrules=2\nmarks=5\n"
+          ++ bytes "drop=2\nfor=1\nreads=1\nmoves=1\n"
+          ++ bytes "drop=1,1\nfor=1\nreads=\nmoves=1\n"
+          ++ bytes "drop=1,2\nfor=\nreads=\nmoves=\n"
+          ++ bytes "drop=2,1\nfor=1\nreads=1\nmoves=1\n"
+          ++ bytes "drop=2,2\nfor=\nreads=\nmoves=\n");
     }
     ∷ record { asked = list "positions=17\n"; expected = lists (bytes "refused=2\n") }
     -- 0 + 256 · 2 + 65536 · 2 + 2^32 · 4
@@ -237,7 +343,7 @@ texts =
     ∷ []
 
 abbrev pub rows : List Row
-rows = macros ++ tables ++ searches ++ texts
+rows = macros ++ positions ++ tables ++ unions ++ searches ++ texts
 
 pub further-cases : map (λ (row : Row). reply (row .asked)) rows ≡ map (λ (row : Row). row .expected) rows
 unfolding valueOf valuesOf applicable successor width states ruleAt stepOf ruleCost statesOf runIn sequenceCost admitted
@@ -245,10 +351,12 @@ unfolding valueOf valuesOf applicable successor width states ruleAt stepOf ruleC
     ruleBlank ruleValidAt rulesValid duplicate repeated hasDuplicates wellFormed valid literal digits isNumber decimal
     number numberWithin variable constant entry sizeItem conditionItem effectItem itemsAfter numberLine listLine
     ruleLines rulesAfter ruleList fileLines finished reading ownVariables emptyLines replaced clash equated unified
-    followed extended composedFrom composed macroCauses macroAnswer tableEntries sequenceAt entryAt marked builtEntry
-    builtTable entryJustified accepted tableCauses buildOutcome builtBuffer checkCauses checkOutcome startFits goalFits
-    meetsGoal visitedBy plansFor queryCauses cheapestPlan searchCauses shownPlan searchedWith searched numeral line
-    markedIndices markLines listingOf listing packed textRefused ofText searchedText packedSearch
+    followed extended composedFrom composed has setOf namedElsewhere readAt writtenAt manyValued touchedBy touchedIn
+    macroCauses macroAnswer tableEntries sequenceAt entryAt marked builtEntry builtTable entryJustified accepted
+    tableCauses buildOutcome builtBuffer checkCauses checkOutcome markedSequences unionOf tableTouched buildAnswer
+    checkAnswer startFits goalFits meetsGoal visitedBy plansFor queryCauses cheapestPlan searchCauses shownPlan
+    searchedWith searched numeral line markedIndices markLines listingOf listing packed textRefused ofText searchedText
+    packedSearch
 further-cases = refl
 
 -- ── Redundancy ───────────────────────────────────────────────────────────────────────────────────

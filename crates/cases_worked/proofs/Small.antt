@@ -1,10 +1,13 @@
--- Small cases of the definitions, by evaluation: lists of sequences, segments, cheapest, indices, first refusals, text.
+-- Small cases of the definitions, by evaluation: sets, lists of sequences, segments, cheapest, indices, first refusals,
+-- text.
 use Prim.Native.Nat.{_+_}
+use lib.Dec.{ltb}
 use mathlib.Core.Path.{_≡_, refl}
 use mathlib.Core.Bool.{true, false}
 use mathlib.Core.Option.{some}
 use mathlib.Core.List.{[], _∷_, map}
 use Rattle.theory_spec.specs.Lists.{numbersFrom}
+use Rattle.theory_spec.specs.Sets.{has, setOf}
 use Rattle.theory_spec.specs.Sequences.{costOf, sequences, depthFirst}
 use Rattle.theory_spec.specs.Pruning.{segments}
 use Rattle.theory_spec.specs.Plans.{cheapest}
@@ -13,6 +16,17 @@ use Rattle.theory_spec.specs.how.Recursion.{shortSuffixes, last}
 use Rattle.model_spec.specs.Refusals.{firstRefusal}
 use Rattle.files_spec.specs.Text.{bytes, numeral, line}
 use Rattle.tables_spec.specs.Table.{sequenceCount}
+use Rattle.report_spec.specs.Listing.{positionItems}
+
+-- the lowest digit first
+pub case-has : map (has 13) (numbersFrom 0 5) ≡ true ∷ false ∷ true ∷ true ∷ false ∷ []
+unfolding has
+case-has = refl
+
+-- 2, 3 and 4 are above 1, and 5 is not below 5
+pub case-setOf : setOf (λ i. ltb 1 i) 5 ≡ 28
+unfolding setOf
+case-setOf = refl
 
 pub case-sequences : sequences 2 2 ≡ [] ∷ (1 ∷ []) ∷ (2 ∷ []) ∷ (1 ∷ 1 ∷ []) ∷ (1 ∷ 2 ∷ []) ∷ (2 ∷ 1 ∷ [])
     ∷ (2 ∷ 2 ∷ []) ∷ []
@@ -55,3 +69,8 @@ case-none = refl
 pub case-line : line "sizes=" (numeral 2 ∷ numeral 16 ∷ numeral 105 ∷ []) ≡ bytes "sizes=2,16,105\n"
 unfolding line numeral
 case-line = refl
+
+-- the lowest and the highest position, and one of two digits between
+pub case-positions : line "reads=" (positionItems 33281) ≡ bytes "reads=1,10,16\n"
+unfolding has line numeral
+case-positions = refl

@@ -7,6 +7,7 @@ use mathlib.Core.Path.{_≡_, refl}
 use mathlib.Core.Option.{Option}
 use mathlib.Core.List.{List, [], _∷_, _++_, map}
 use lib.ListN.{replicate}
+use Rattle.theory_spec.specs.Sets.{has, setOf}
 use Rattle.theory_spec.specs.Sequences.{Sequence}
 use Rattle.model_spec.specs.States.{valueOf, valuesOf, applicable, successor, width, states}
 use Rattle.model_spec.specs.Rules.{ruleAt, stepOf, ruleCost, statesOf, runIn, sequenceCost, admitted, redundant}
@@ -20,11 +21,15 @@ use Rattle.files_spec.specs.Reading.{entry, sizeItem, conditionItem, effectItem
 use Rattle.files_spec.specs.Reading.{ruleLines, rulesAfter, ruleList, fileLines, finished, reading}
 use Rattle.macros_spec.specs.Composition.{Lines, ownVariables, emptyLines, replaced, clash, equated, unified, followed}
 use Rattle.macros_spec.specs.Composition.{extended, composedFrom, composed}
-use Rattle.macros_spec.specs.Answers.{macroCauses, macroAnswer}
+use Rattle.macros_spec.specs.Touched.{namedElsewhere, readAt, writtenAt, manyValued, touchedBy}
+use Rattle.macros_spec.specs.Answers.{macroCauses, touchedIn, macroAnswer}
 use Rattle.macros_spec.specs.declared.MacroAnswer.{MacroAnswer}
+use Rattle.macros_spec.specs.declared.Touched.{Touched}
 use Rattle.tables_spec.specs.Table.{tableEntries, sequenceAt, kept, entryAt, marked, builtEntry, builtTable}
 use Rattle.tables_spec.specs.Table.{entryJustified, accepted}
 use Rattle.tables_spec.specs.Answers.{tableCauses, buildOutcome, builtBuffer, checkCauses, checkOutcome}
+use Rattle.unions_spec.specs.Unions.{markedSequences, unionOf, tableTouched, buildAnswer, checkAnswer}
+use Rattle.unions_spec.specs.declared.TableAnswer.{TableAnswer}
 use Rattle.search_spec.specs.Query.{Query, startFits, goalFits, meetsGoal, visitedBy, plansFor}
 use Rattle.search_spec.specs.Searched.{Searched, queryCauses, cheapestPlan, searchCauses, shownPlan, searchedWith}
 use Rattle.search_spec.specs.Searched.{searched}
@@ -33,23 +38,23 @@ use Rattle.report_spec.specs.Listing.{listing}
 
 -- ── Rule sets ────────────────────────────────────────────────────────────────────────────────────
 
-abbrev pub setOf : String → RuleSet
-setOf file = reading (bytes file) .set
+abbrev pub ruleSet : String → RuleSet
+ruleSet file = reading (bytes file) .set
 
 abbrev pub fileE : String
 fileE = "positions=2\nsizes=2,2\nrules=2\ncost=1\nif=x1,x2\nthen=0,x2\ncost=1\nif=x1,x2\nthen=x1,0\n"
 
 abbrev pub E : RuleSet
-E = setOf fileE
+E = ruleSet fileE
 
 abbrev pub H : RuleSet
 H =
-    setOf
+    ruleSet
     "positions=3\nsizes=4,4,4\nrules=4\ncost=1\nif=0,x2,x2\nthen=1,0,x2\ncost=1\nif=1,x2,0\nthen=2,0,0\ncost=1\nif=1,x2,x3\nthen=2,x3,x2\ncost=1\nif=2,0,0\nthen=3,1,1\n"
 
 -- the set of P11, of which document 01 gives no costs
 abbrev pub K : RuleSet
-K = setOf "positions=3\nsizes=3,3,3\nrules=2\ncost=1\nif=x1,x2,x3\nthen=x1,x1,x3\ncost=1\nif=x1,x2,x2\nthen=0,x2,x2\n"
+K = ruleSet "positions=3\nsizes=3,3,3\nrules=2\ncost=1\nif=x1,x2,x3\nthen=x1,x1,x3\ncost=1\nif=x1,x2,x2\nthen=0,x2,x2\n"
 
 -- ── The form of the table ────────────────────────────────────────────────────────────────────────
 
@@ -58,6 +63,7 @@ pub data Question : Type 0 where
   search : RuleSet → Query → ℕ → Question
   macroOf : RuleSet → List ℕ → Question
   compose : RuleSet → List ℕ → Question
+  touch : RuleSet → List ℕ → Question
   build : RuleSet → ℕ → ℕ → Question
   check : RuleSet → ℕ → List ℕ → Question
   look : RuleSet → ℕ → List ℕ → ℕ → Question
@@ -69,8 +75,9 @@ pub data Reply : Type 0 where
   finds : Searched → Reply
   composes : MacroAnswer → Reply
   vectors : Option Lines → Reply
-  builds : ℕ → List ℕ → Reply
-  checks : ℕ → Reply
+  touches : Touched → Reply
+  builds : TableAnswer → List ℕ → Reply
+  checks : TableAnswer → Reply
   shows : Sequence → ℕ → Reply
   lists : List ℕ → Reply
   packs : ℕ → List ℕ → Reply
@@ -79,8 +86,9 @@ abbrev pub reply : Question → Reply
 reply (search set query room) = finds (searched set query room)
 reply (macroOf set moves) = composes (macroAnswer set moves)
 reply (compose set moves) = vectors (composed set moves)
-reply (build set reach size) = builds (buildOutcome set reach size) (builtBuffer set reach size)
-reply (check set reach table) = checks (checkOutcome set reach table)
+reply (touch set moves) = touches (touchedIn set moves)
+reply (build set reach size) = builds (buildAnswer set reach size) (builtBuffer set reach size)
+reply (check set reach table) = checks (checkAnswer set reach table)
 reply (look set reach table index) = shows (sequenceAt set reach index) (entryAt table index)
 reply (list file) = lists (listing (bytes file))
 reply (enter file query room) =
@@ -122,9 +130,13 @@ abbrev pub told : ℕ → ℕ → ℕ → ℕ → List ℕ → Reply
 told outcome cost n steps plan =
     finds (record { answer = record { outcome = outcome; cost = cost; length = n; steps = steps }; plan = plan })
 
+-- an outcome with the positions read and written, in that order
+abbrev pub answer : ℕ → ℕ → ℕ → TableAnswer
+answer outcome reads writes = record { outcome = outcome; touched = record { reads = reads; writes = writes } }
+
 -- the macro of three positions
-abbrev lines : List ℕ → List ℕ → ℕ → Reply
-lines condition effect cost =
+abbrev lines : List ℕ → List ℕ → ℕ → ℕ → ℕ → Reply
+lines condition effect cost reads writes =
     composes (record {
       outcome = 0;
       result = record {
@@ -133,6 +145,7 @@ lines condition effect cost =
             ++ replicate 13 0;
         cost = cost;
       };
+      touched = record { reads = reads; writes = writes };
     })
 
 -- two bytes of a table: kept, and marked with a witness below 256
@@ -141,6 +154,12 @@ keptBytes = 255 ∷ 255 ∷ []
 
 abbrev pub markBytes : ℕ → List ℕ
 markBytes witness = witness ∷ 0 ∷ []
+
+-- the table of E at reach 2: (1,1) is marked with (1), (2,1) with (1,2) and (2,2) with (2)
+abbrev pub tableE : List ℕ
+tableE =
+    keptBytes ++ keptBytes ++ keptBytes
+    ++ markBytes 1 ++ keptBytes ++ markBytes 4 ++ markBytes 2
 
 -- the table of P8: (1,2), index 6, is kept; (3,4), index 16, is marked with 12. Document 01 names these two; the others
 -- were worked by hand
@@ -175,12 +194,18 @@ rows =
     -- P5
     ∷ record { asked = ofE (1 ∷ 1 ∷ []) 0 9 1 0; expected = told 0 0 0 1 [] }
     ∷ record { asked = ofE (1 ∷ 1 ∷ []) 0 9 1 3; expected = told 0 0 0 1 (255 ∷ 255 ∷ 255 ∷ []) }
-    -- P6: `0,0,0` to `2,0,0`
-    ∷ record { asked = macroOf H (1 ∷ 2 ∷ []); expected = lines (0 ∷ 0 ∷ 0 ∷ []) (2 ∷ 0 ∷ 0 ∷ []) 2 }
-    -- P7: `0,x2,x2` to `2,x2,0`
-    ∷ record { asked = macroOf H (1 ∷ 3 ∷ []); expected = lines (0 ∷ 17 ∷ 17 ∷ []) (2 ∷ 17 ∷ 0 ∷ []) 2 }
-    -- P8: (1,2) is kept, and (3,4) is marked with the index of (2,4)
-    ∷ record { asked = build H 2 42; expected = builds 0 tableH }
+    -- the table of E: nothing is read, and 1 and 2 are written
+    ∷ record { asked = build E 2 14; expected = builds (answer 0 0 3) tableE }
+    ∷ record { asked = check E 2 tableE; expected = checks (answer 0 0 3) }
+    -- P6: `0,0,0` to `2,0,0`; reads 1, 2 and 3, and writes 1
+    ∷ record { asked = macroOf H (1 ∷ 2 ∷ []); expected = lines (0 ∷ 0 ∷ 0 ∷ []) (2 ∷ 0 ∷ 0 ∷ []) 2 7 1 }
+    -- P7: `0,x2,x2` to `2,x2,0`; reads 1, 2 and 3, and writes 1 and 3
+    ∷ record { asked = macroOf H (1 ∷ 3 ∷ []); expected = lines (0 ∷ 17 ∷ 17 ∷ []) (2 ∷ 17 ∷ 0 ∷ []) 2 7 5 }
+    -- P8: (1,2) is kept, and (3,4) is marked with the index of (2,4). (3,4), `1,0,0` to `3,1,1`, reads and writes 1,
+    -- 2 and 3; no state admits the others that are marked
+    ∷ record { asked = build H 2 42; expected = builds (answer 0 7 7) tableH }
+    ∷ record { asked = check H 2 tableH; expected = checks (answer 0 7 7) }
+    ∷ record { asked = macroOf H (3 ∷ 4 ∷ []); expected = lines (1 ∷ 0 ∷ 0 ∷ []) (3 ∷ 1 ∷ 1 ∷ []) 2 7 7 }
     ∷ record { asked = look H 2 (builtTable H 2) 6; expected = shows (1 ∷ 2 ∷ []) kept }
     ∷ record { asked = look H 2 (builtTable H 2) 16; expected = shows (3 ∷ 4 ∷ []) 12 }
     ∷ record { asked = look H 2 (builtTable H 2) 12; expected = shows (2 ∷ 4 ∷ []) kept }
@@ -190,11 +215,11 @@ rows =
     -- P10: (1,2) is marked with the index of (1,3)
     ∷ record { asked = look H 2 table10 6; expected = shows (1 ∷ 2 ∷ []) 7 }
     ∷ record { asked = look H 2 table10 7; expected = shows (1 ∷ 3 ∷ []) kept }
-    ∷ record { asked = check H 2 table10; expected = checks 14 }
+    ∷ record { asked = check H 2 table10; expected = checks (answer 14 0 0) }
     ∷ record { asked = ofH table10 3; expected = told 14 0 0 0 (255 ∷ 255 ∷ 255 ∷ []) }
     ∷ record { asked = ofH table10 5; expected = told 14 0 0 0 (255 ∷ 255 ∷ 255 ∷ 255 ∷ 255 ∷ []) }
-    -- P11: `x1,x2,x1` to `0,x1,x1`
-    ∷ record { asked = macroOf K (1 ∷ 2 ∷ []); expected = lines (16 ∷ 17 ∷ 16 ∷ []) (0 ∷ 16 ∷ 16 ∷ []) 2 }
+    -- P11: `x1,x2,x1` to `0,x1,x1`; reads 1 and 3, and writes 1 and 2
+    ∷ record { asked = macroOf K (1 ∷ 2 ∷ []); expected = lines (16 ∷ 17 ∷ 16 ∷ []) (0 ∷ 16 ∷ 16 ∷ []) 2 5 3 }
     ∷ []
 
 pub worked-cases : map (λ (row : Row). reply (row .asked)) rows ≡ map (λ (row : Row). row .expected) rows
@@ -203,7 +228,9 @@ unfolding valueOf valuesOf applicable successor width states ruleAt stepOf ruleC
     ruleBlank ruleValidAt rulesValid duplicate repeated hasDuplicates wellFormed valid literal digits isNumber decimal
     number numberWithin variable constant entry sizeItem conditionItem effectItem itemsAfter numberLine listLine
     ruleLines rulesAfter ruleList fileLines finished reading ownVariables emptyLines replaced clash equated unified
-    followed extended composedFrom composed macroCauses macroAnswer tableEntries sequenceAt entryAt marked builtEntry
-    builtTable entryJustified accepted tableCauses buildOutcome builtBuffer checkCauses checkOutcome startFits goalFits
-    meetsGoal visitedBy plansFor queryCauses cheapestPlan searchCauses shownPlan searchedWith searched
+    followed extended composedFrom composed has setOf namedElsewhere readAt writtenAt manyValued touchedBy touchedIn
+    macroCauses macroAnswer tableEntries sequenceAt entryAt marked builtEntry builtTable entryJustified accepted
+    tableCauses buildOutcome builtBuffer checkCauses checkOutcome markedSequences unionOf tableTouched buildAnswer
+    checkAnswer startFits goalFits meetsGoal visitedBy plansFor queryCauses cheapestPlan searchCauses shownPlan
+    searchedWith searched
 worked-cases = refl
