@@ -3,8 +3,8 @@
 // `#` is a heading. Moves are numbers with commas between; nothing stands for the empty sequence.
 // - `f` read the text, in which `/` stands for a line feed: the outcome. Its set is the one of the lines that follow
 // - `s` change the set's number of positions and its number of rules to these two: whether it is valid
-// - `m` the macro of these moves: the outcome, and condition, effect and cost in the notation of a rule file; of a
-//   refusal whether the macro is zeros throughout
+// - `m` the macro of these moves: the outcome, and condition, effect and cost in the notation of a rule file, and the
+//   positions that it reads and writes, with commas between; of a refusal whether the answer is zeros throughout
 // - `w` whether the moves before ` by ` are redundant with those after it
 // The answers that `stdout` holds were written by hand from document 01 and from the source documents.
 use bytes::scan::find;
@@ -12,6 +12,8 @@ use cases_common::decode;
 use libc::STDIN_FILENO;
 use libc::STDOUT_FILENO;
 use macros_spec::Macro;
+use macros_spec::MacroAnswer;
+use macros_spec::Touched;
 use macros_spec::Vectors;
 use model_spec::FIRST_VARIABLE;
 use model_spec::RuleSet;
@@ -128,17 +130,49 @@ fn print_lines(positions: u8, found: Macro) {
     }
 }
 
-// Whether a refused macro is zeros throughout.
-fn print_blank(found: Macro) {
+// The positions of a set, in rising order, with commas between.
+fn print_positions(set: u16) {
+    let mut rest = set;
+    for i in 0..16u8 {
+        if rest % 2 == 1 {
+            print_byte(i + 1);
+            if 1 < rest {
+                print(b",");
+            }
+        }
+        rest = rest / 2;
+    }
+}
+
+// The positions that are read and written.
+fn print_touched(found: Touched) {
+    print(b"  reads=");
+    print_positions(found.reads);
+    print(b"  writes=");
+    print_positions(found.writes);
+}
+
+// Whether a macro and its two sets are zeros throughout.
+fn is_blank(found: Macro, sets: Touched) -> bool {
     if found.cost != 0 {
-        print(b" not zeros");
+        return false;
+    }
+    if sets.reads != 0 {
+        return false;
+    }
+    if sets.writes != 0 {
+        return false;
+    }
+    blank_from(0, found)
+}
+
+// Whether a refusal is zeros throughout.
+fn print_blank(answer: MacroAnswer) {
+    if is_blank(answer.result, answer.touched) {
+        print(b" zeros");
         return;
     }
-    if !blank_from(0, found) {
-        print(b" not zeros");
-        return;
-    }
-    print(b" zeros");
+    print(b" not zeros");
 }
 
 // The macro of the moves of a text.
@@ -149,9 +183,10 @@ fn print_macro(set: RuleSet, text: &[u8]) {
     print_byte(answer.outcome);
     if answer.outcome == 0 {
         print_lines(set.positions, answer.result);
+        print_touched(answer.touched);
         return;
     }
-    print_blank(answer.result);
+    print_blank(answer);
 }
 
 // The vectors of a sequence.
