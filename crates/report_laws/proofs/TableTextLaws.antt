@@ -4,22 +4,20 @@ use mathlib.Core.Path.{_≡_, refl, ap, _∙_}
 use mathlib.Core.Logic.{_≢_}
 use mathlib.Core.Bool.{Bool, true, false, not, cond}
 use mathlib.Core.List.{[]}
-use Prim.Native.Nat.{ℕ, _/_, _≤_, _<_, min, max}
+use Prim.Native.Nat.{ℕ, _/_, _≤_, _<_}
 use native.Mathlib.Omega.{arith}
 use lib.Dec.{eqb}
 use lib.ListN.{length}
 use borrow.Author.Tests.{eqb-false}
 use Rattle.theory_spec.specs.Lists.{flat, numbersFrom}
 use Rattle.theory_spec.proofs.ListLaws.{flat-same, of-numbersFrom}
-use Rattle.theory_spec.proofs.IndexLaws.{sequence-at}
 use Rattle.model_spec.specs.Validity.{WellFormed}
 use Rattle.model_spec.specs.declared.RuleSet.{RuleSet}
 use Rattle.files_spec.specs.Text.{line}
 use Rattle.macros_spec.specs.Answers.{touchedIn}
 use Rattle.tables_spec.specs.Table.{tableEntries, sequenceAt, kept, entryAt, builtEntry, builtTable}
-use Rattle.tables_spec.proofs.CountLaws.{count-sequences}
 use Rattle.tables_spec.proofs.TableLaws.{built-entry, built-length, built-least}
-use Rattle.tables_laws.specs.how.ShortSequences.{shortSequence}
+use Rattle.tables_laws.proofs.SequenceLoopLaws.{near-at}
 use Rattle.output_laws.proofs.OverlayLaws.{shown-number}
 use Rattle.report_spec.specs.Listing.{markedIndices, markLines, listingOf}
 use Rattle.report_laws.specs.how.Marks.{marks, tableMarks, touchedAt, markText, entryLines, marksText}
@@ -42,17 +40,10 @@ module _ (set : RuleSet) where
       (omega (arith, of-numbersFrom 0 (tableEntries set 2) d)))))
 
   module _ (formed : WellFormed set) where
-    -- the sequence of an index
-    short-two : (i : ℕ) → i < tableEntries set 2 → shortSequence (set .count) i ≡ sequenceAt set 2 i
-    unfolding shortSequence tableEntries sequenceAt
-    short-two i h =
-        let e : max 1 (min (set .count) 31) ≡ set .count = omega (arith, formed .countLimits) in
-        rw e (sequence-at (set .count) 2 3 i (omega arith) (omega (arith, count-sequences (set .count) 2)))
-
-    -- what it reads and writes
+    -- what the sequence of an index reads and writes
     touched-at : (i : ℕ) → i < tableEntries set 2 → touchedAt set i ≡ touchedIn set (sequenceAt set 2 i)
     unfolding touchedAt
-    touched-at i h = ap (touchedIn set) (short-two i h)
+    touched-at i h = ap (touchedIn set) (near-at set formed 2 (omega arith) i h)
 
     -- the lines of a mark
     mark-lines : (i : ℕ) → i < tableEntries set 2 → builtEntry set 2 i ≢ kept

@@ -23,10 +23,10 @@ module _ (set : RuleSet) (valid : Valid set) where
   built size e = built-whole set 2 size (build-ready-iff set 2 size .1 (valid, ((omega arith, omega arith), e)))
 
   -- its listing is that of the set
-  lists : (table : List ℕ) → table ≡ builtTable set 2 → listingOf set ≡ tableText (set .count) table
+  lists : (table : List ℕ) → table ≡ builtTable set 2 → listingOf set ≡ tableText set table
   lists table e =
-      let limits = valid .formed .countLimits in
-      sym (ap (tableText (set .count)) e ∙ table-listing set (limits .0) (omega (arith, marked-count set (limits .1))))
+      let few = marked-count set (valid .formed .countLimits .1) in
+      sym (ap (tableText set) e ∙ table-listing set (valid .formed) (omega (arith, few)))
 
 build-table-requires : tie.Need-build-table-requires
 build-table-requires c κs = search needs
