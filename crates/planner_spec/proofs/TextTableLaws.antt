@@ -13,11 +13,12 @@ use Rattle.model_spec.proofs.RefusalLaws.{refusal-at-most}
 use Rattle.files_spec.specs.Reading.{reading}
 use Rattle.files_spec.proofs.RefusedLaws.{reading-byte}
 use Rattle.tables_spec.specs.declared.TableSize.{TableSize}
+use Rattle.tables_spec.specs.Table.{builtTable}
 use Rattle.tables_spec.specs.Answers.{sizeCauses, tableSize, tableCauses, buildOutcome, builtBuffer}
 use Rattle.tables_spec.specs.Answers.{checkCauses, checkOutcome}
 use Rattle.tables_spec.proofs.AnswerLaws.{built-whole, built-checks, build-meaning, check-meaning}
 use Rattle.tables_spec.proofs.SizeLaws.{size-meaning, size-builds-iff}
-use Rattle.unions_spec.specs.Unions.{buildAnswer, checkAnswer, UnionMeaning}
+use Rattle.unions_spec.specs.Unions.{answerWith, buildAnswer, checkAnswer, UnionMeaning}
 use Rattle.unions_spec.specs.declared.TableAnswer.{TableAnswer}
 use Rattle.unions_spec.proofs.UnionLaws.{build-unions, check-unions}
 use Rattle.planner_spec.specs.PackedLength.{packedLength}
@@ -263,13 +264,16 @@ module _ (text : List ℕ) (reach : ℕ) where
         ap (λ (a : TableSize). a .length) (size-read text reach e),
       )
 
-  -- and the check passes what a build leaves
+  -- and the check passes what a build leaves, and tells the same positions
   pub built-passes : (size : ℕ) → textBuildAnswer text reach size .outcome ≡ 0
-      → textCheckAnswer text reach (textBuiltBuffer text reach size) .outcome ≡ 0
+      → textCheckAnswer text reach (textBuiltBuffer text reach size) ≡ textBuildAnswer text reach size
+  unfolding buildAnswer checkAnswer
   built-passes size z =
+      let set = reading text .set in
       let e = is-read (textBuildAnswer text reach size .outcome) (λ h. ap outcomeOf (build-refused text reach size h .0)) z in
       let built = sym (build-outcome text reach size e) ∙ z in
-      let whole = build-read text reach size e .1 ∙ built-whole (reading text .set) reach size built in
-      check-outcome text reach (textBuiltBuffer text reach size) e
-      ∙ ap (checkOutcome (reading text .set) reach) whole
-      ∙ built-checks (reading text .set) reach size built
+      let whole = build-read text reach size e .1 ∙ built-whole set reach size built in
+      check-read text reach (textBuiltBuffer text reach size) e
+      ∙ ap (checkAnswer set reach) whole
+      ∙ ap (answerWith set reach (builtTable set reach)) (built-checks set reach size built ∙ sym built)
+      ∙ sym (build-read text reach size e .0)

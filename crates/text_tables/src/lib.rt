@@ -1,13 +1,12 @@
 // Pruning tables of a rule text's set. 1 to 4 of the text come before all else.
 use buffers::fill_from;
-use macros_spec::Touched;
 use reader::read;
 use tables_spec::TableSize;
+use unions::refused;
 use unions_spec::TableAnswer;
 ghost use mathlib.Core.Path.{_≡_};
 ghost use lib.ListN.{length};
-ghost use Rattle.planner_spec.specs.TextTables.{textTableSize, refusedTable};
-ghost use Rattle.planner_spec.specs.TextTables.{textBuildAnswer, textBuiltBuffer, textCheckAnswer};
+ghost use Rattle.planner_spec.specs.TextTables.{textTableSize, textBuildAnswer, textBuiltBuffer, textCheckAnswer};
 ghost use Rattle.planner_spec.specs.TextTables.{TextSizeMeaning, TextBuildMeaning, TextCheckMeaning};
 
 // How long a table is; a refused text has no length.
@@ -24,19 +23,6 @@ pub fn table_size(text: &[u8], reach: usize) -> TableSize
         };
     }
     table_sizes::table_size(file.set, reach)
-}
-
-// The answer for a refused text: its outcome, and no positions.
-fn refused(outcome: u8) -> TableAnswer
-    ensures { λ r. ⌜ r ≡ refusedTable outcome ⌝ }
-{
-    TableAnswer {
-        outcome,
-        touched: Touched {
-            reads: 0,
-            writes: 0,
-        },
-    }
 }
 
 // Builds the table, or zeroes it; tells the positions that its marked sequences read and write.
