@@ -137,9 +137,9 @@ fn print_marks(table: &[u8]) {
 // Builds a table over bytes of 170.
 fn print_built(set: RuleSet, reach: usize, table: &mut [u8]) {
     fill_from(table, 0, 170);
-    let outcome = builder::build_table(set, reach, table);
-    print_byte(outcome);
-    if outcome == 0 {
+    let answer = builder::build_table(set, reach, table);
+    print_byte(answer.outcome);
+    if answer.outcome == 0 {
         print(b"; ");
         print_marks(table);
     }
