@@ -44,8 +44,8 @@ fn entry_for(set: RuleSet, index: usize, own: Profile) -> usize
     found
 }
 
-// Writes every entry, in order, and gives what the marked sequences read and write. `reach` is for the contract alone: a
-// table of a smaller reach begins as that of reach 3 does.
+// Writes every entry, in order, and gives what the marked sequences read and write. `reach` is for the contract alone:
+// a table of a smaller reach begins as that of reach 3 does.
 fn write_entries(set: RuleSet, reach: usize, table: &mut [u8]) -> Touched
     requires { ⌜
         WellFormed set

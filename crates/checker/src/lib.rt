@@ -107,8 +107,8 @@ fn check_for(set: RuleSet, reach: usize, table: &[u8]) -> TableAnswer
     checked_marks(set, reach, table)
 }
 
-// Checks a table, whoever made it: whether each of its marks is justified. Gives the positions that the marked sequences
-// read and write.
+// Checks a table, whoever made it: whether each of its marks is justified. Gives the positions that the marked
+// sequences read and write.
 pub fn check_table(set: RuleSet, reach: usize, table: &[u8]) -> TableAnswer
     ensures { λ r. ⌜
         (let entries = now (table .entry) in

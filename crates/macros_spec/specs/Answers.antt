@@ -99,7 +99,8 @@ pub record Depends (set : RuleSet) (q : Sequence) (i : ℕ) : Type 0 where
   pub end : State
   pub runs : runIn set q state ≡ some end
   pub differs : (runIn set q other ≡ none)
-      ⊎ ((t : State) × (k : ℕ) × (runIn set q other ≡ some t) × (k < placeCount) × (k ≢ i) × (getD end k 0 ≢ getD t k 0))
+      ⊎ ((t : State) × (k : ℕ) × (runIn set q other ≡ some t) × (k < placeCount) × (k ≢ i)
+      × (getD end k 0 ≢ getD t k 0))
 
 -- no state admits the sequence
 abbrev pub Denied : RuleSet → Sequence → Type 0

@@ -78,8 +78,8 @@ NamesAnother e i = (firstVariable ≤ e) × (e % placeCount ≢ i)
 abbrev pub NamedElsewhere : List ℕ → ℕ → Type 0
 NamedElsewhere line i = (k : ℕ) × (k < placeCount) × (k ≢ i) × Names (getD line k 0) i
 
--- document 02: "positions whose `if` entry is a constant or names another position, or that another position's `if` or `then` entry
--- names"
+-- document 02: "positions whose `if` entry is a constant or names another position, or that another position's `if` or
+-- `then` entry names"
 abbrev pub Reads : RuleSet → Macro → ℕ → Type 0
 Reads set m i =
     ManyValued set i
