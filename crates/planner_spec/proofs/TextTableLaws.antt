@@ -270,7 +270,8 @@ module _ (text : List ℕ) (reach : ℕ) where
   unfolding buildAnswer checkAnswer
   built-passes size z =
       let set = reading text .set in
-      let e = is-read (textBuildAnswer text reach size .outcome) (λ h. ap outcomeOf (build-refused text reach size h .0)) z in
+      let answer = textBuildAnswer text reach size in
+      let e = is-read (answer .outcome) (λ h. ap outcomeOf (build-refused text reach size h .0)) z in
       let built = sym (build-outcome text reach size e) ∙ z in
       let whole = build-read text reach size e .1 ∙ built-whole set reach size built in
       check-read text reach (textBuiltBuffer text reach size) e

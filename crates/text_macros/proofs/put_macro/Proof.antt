@@ -59,7 +59,8 @@ loop-again c =
     let out = s .args .out .now in
     let l = c .before .before .loop in
     let h : l .i < length out = omega (arith, l .inv) in
-    let byte = c .macro-byte .ensures ∙ sym (padded-at (length out) (l .i) (macroBytes (s .args .m) (s .args .touched))) in (
+    let bytes = macroBytes (s .args .m) (s .args .touched) in
+    let byte = c .macro-byte .ensures ∙ sym (padded-at (length out) (l .i) bytes) in (
       search needs,
       simp length-set (l .inv .1),
       copied-more out (wholeOf s) (l .i) (l .out) _ 0 h (omega (arith, sized s)) (l .inv .2) byte,
