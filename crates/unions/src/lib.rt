@@ -5,7 +5,7 @@ use tables::KEPT;
 use touched::touched;
 use unions_spec::TableAnswer;
 ghost use mathlib.Core.Path.{_≡_};
-ghost use mathlib.Core.Bool.{not, cond};
+ghost use mathlib.Core.Bool.{not, cond, _&&_};
 ghost use lib.Dec.{eqb};
 ghost use Rattle.macros_spec.specs.Composition.{linesOf};
 ghost use Rattle.macros_spec.specs.Touched.{untouched};
@@ -24,13 +24,27 @@ pub fn refused(outcome: u8) -> TableAnswer
     TableAnswer { outcome, touched }
 }
 
-// Both unions with the entry of one sequence more, of which these are the vectors: as they were where it is kept.
+// Whether both unions are this set.
+fn are_full(unions: Touched, all: u16) -> bool
+    ensures { λ r. ⌜ r ≡ (eqb (unions .reads) all && eqb (unions .writes) all) ⌝ }
+{
+    if unions.reads != all {
+        return false;
+    }
+    unions.writes == all
+}
+
+// Both unions with the entry of one sequence more, of which these are the vectors: as they were where it is kept. Unions
+// that have every wide position already are not added to: most tables come to that after some marks.
 pub fn with_mark(before: Touched, wide: u16, entry: usize, vectors: Vectors) -> Touched
     ensures { λ r. ⌜
         (let own = touchedWithin wide (linesOf vectors) in
         r ≡ cond (not (eqb entry kept)) (united before own) before) ⌝ }
 {
     if entry == KEPT {
+        return before;
+    }
+    if are_full(before, wide) {
         return before;
     }
     let own = touched(wide, vectors);

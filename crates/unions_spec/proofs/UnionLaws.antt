@@ -3,13 +3,14 @@
 use mathlib.Core.Path.{_≡_, refl, sym, ap, ap₂, _∙_, subst}
 use mathlib.Core.Logic.{_↔_, _≢_, ⊎-elim}
 use mathlib.Core.Bool.{Bool, true, false, not, cond, _&&_, _||_, or-false}
+use mathlib.Core.Option.{Option, some, none}
 use mathlib.Core.List.{List, [], _∷_, _++_, map}
 use Prim.Native.Nat.{ℕ, zero, suc, _+_, _^_, _<_}
 use native.Mathlib.Nat.{zero-add, add-zero}
 use native.Mathlib.Numerals.{add-one}
 use native.Mathlib.Omega.{arith}
 use lib.Dec.{eqb}
-use lib.Bits.{bitOr, or-lt}
+use lib.Bits.{bitOr, or-lt, or-zero-r}
 use borrow.Author.Tests.{eq-eqb, ne-eqb, lt-ltb}
 use Rattle.theory_spec.specs.Lists.{any, keepIf, keep, numbersFrom}
 use Rattle.theory_spec.specs.Sets.{has, setOf}
@@ -19,7 +20,9 @@ use Rattle.theory_spec.proofs.TestLaws.{equal?, eqb-iff, not-iff, and-iff, any-
 use Rattle.theory_spec.proofs.SetLaws.{has-none, has-or, has-setOf, setOf-below, sets-equal}
 use Rattle.model_spec.specs.Validity.{WellFormed, Valid}
 use Rattle.model_spec.specs.declared.RuleSet.{RuleSet}
-use Rattle.macros_spec.specs.Touched.{untouched}
+use Rattle.macros_spec.specs.Composition.{Lines}
+use Rattle.macros_spec.specs.Touched.{untouched, readAt, writtenAt}
+use Rattle.macros_spec.specs.how.Touching.{touchedWithin}
 use Rattle.macros_spec.specs.Answers.{touchedIn, SequenceReads, SequenceWrites}
 use Rattle.macros_spec.specs.declared.Touched.{Touched}
 use Rattle.macros_spec.proofs.SequenceTouchLaws.{reads-iff, writes-iff, touched-bound}
@@ -237,6 +240,31 @@ united-all set reach marked table same =
     let writes = united-part (λ t. t .writes) refl (λ a b. refl) (λ s q. touched-bound s q .1) set reach marked table
     same in
     λ i. record { reads = reads i; writes = writes i }
+
+-- unions that have every position that is looked at stay as they are
+pub united-full : (wide : ℕ) → wide < 65536 → (before : Touched) → before .reads ≡ wide → before .writes ≡ wide
+    → (o : Option Lines) → united before (touchedWithin wide o) ≡ before
+unfolding united touchedWithin
+united-full wide h before r w none =
+    λ i. record { reads = or-zero-r (before .reads) i; writes = or-zero-r (before .writes) i }
+united-full wide h before r w (some m) =
+    let reads = full (before .reads) r (readAt m) in
+    let writes = full (before .writes) w (writtenAt m) in
+    λ i. record { reads = reads i; writes = writes i }
+  where
+    absorbed : (a b : Bool) → (a || (a && b)) ≡ a
+    absorbed true b = refl
+    absorbed false b = refl
+
+    full : (m : ℕ) → m ≡ wide → (p : ℕ → Bool) → bitOr m (setOf (λ i. has wide i && p i) 16) ≡ m
+    full m e p =
+        let some-wide = setOf (λ i. has wide i && p i) 16 in
+        sets-equal 16 (bitOr m some-wide) m (or-lt 16 m some-wide (rw e h) (setOf-below (λ i. has wide i && p i) 16))
+        (rw e h)
+        (λ k l. has-or m some-wide k
+        ∙ ap (λ b. has m k || b) (has-setOf (λ i. has wide i && p i) 16 k ∙ ap (λ b. b && (has wide k && p k)) (lt-ltb k 16 l)
+        ∙ ap (λ n. has n k && p k) (sym e))
+        ∙ absorbed (has m k) (p k))
 
 -- one index more
 pub united-next : (set : RuleSet) (reach : ℕ) (marked : ℕ → Bool) (n : ℕ) (before own : Touched)

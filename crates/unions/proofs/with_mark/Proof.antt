@@ -1,4 +1,5 @@
--- `unions::with_mark` meets its contract: a kept entry leaves both unions, a mark adds what its sequence touches.
+-- `unions::with_mark` meets its contract: a kept entry leaves both unions, a mark adds what its sequence touches, which
+-- is nothing where they are full.
 -- Assumes nothing.
 use mathlib.Core.Path.{_≡_, sym, ap, _∙_}
 use mathlib.Core.Logic.{_≢_}
@@ -6,11 +7,14 @@ use mathlib.Core.Bool.{not, cond}
 use Prim.Native.Nat.{ℕ}
 use lib.Dec.{eqb}
 use lib.Bits.{bitOr}
-use borrow.Author.Tests.{eq-eqb, ne-eqb}
+use borrow.Author.Tests.{eq-eqb, ne-eqb, eqb-true}
 use borrow.Author.Needs.{needs}
+use Rattle.theory_spec.proofs.ListLaws.{and-split}
+use Rattle.macros_spec.specs.Composition.{linesOf}
 use Rattle.macros_spec.specs.declared.Touched.{Touched}
 use Rattle.tables_spec.specs.Table.{kept}
 use Rattle.unions_spec.specs.how.United.{united}
+use Rattle.unions_spec.proofs.UnionLaws.{united-full}
 use Rattle.unions.proofs.with_mark.Statement.{statement}
 use Rattle.unions.proofs.with_mark.Tie as tie
 
@@ -24,18 +28,36 @@ module _ (entry : ℕ) (before touched : Touched) where
   unfolding united
   adds m own e = ap (united before) e ∙ sym (rw (ne-eqb entry kept m))
 
+  -- nothing is added to full unions
+  stays : entry ≢ kept → united before touched ≡ before → before ≡ cond (not (eqb entry kept)) (united before touched) before
+  stays m e = sym (rw (ne-eqb entry kept m) e)
+
 returns : tie.Need-returns
 returns c = let s = c .before .args in keeps (s .entry) (s .before) _ (c .if1 .taken)
+
+are-full-requires : tie.Need-are-full-requires
+are-full-requires c κs = search needs
+
+returns-2 : tie.Need-returns-2
+returns-2 c =
+    let looked = c .before in
+    let start = looked .before .before in
+    let s = start .args in
+    let full = and-split (eqb (s .before .reads) (s .wide)) (eqb (s .before .writes) (s .wide))
+    (sym (looked .are-full .ensures) ∙ c .if2 .taken) in
+    stays (s .entry) (s .before) _ (looked .before .if1 .left)
+    (united-full (s .wide) (search needs) (s .before) (eqb-true _ _ (full .0)) (eqb-true _ _ (full .1)) (linesOf (s .vectors)))
 
 touched-requires : tie.Need-touched-requires
 touched-requires c κs = search needs
 
-returns-2 : tie.Need-returns-2
-returns-2 c =
+returns-3 : tie.Need-returns-3
+returns-3 c =
     let joined = c .before .before in
     let own = joined .before .before in
-    let s = own .before .before .args in
-    adds (s .entry) (s .before) _ (own .before .if1 .left) (own .touched .result) (own .touched .ensures)
+    let marked = own .before .before .before in
+    let s = marked .before .args in
+    adds (s .entry) (s .before) _ (marked .if1 .left) (own .touched .result) (own .touched .ensures)
 
 pub with-mark-spec : {M : Type 1} → statement M
-with-mark-spec = tie.close (tie.spec returns touched-requires returns-2)
+with-mark-spec = tie.close (tie.spec returns are-full-requires returns-2 touched-requires returns-3)
