@@ -149,10 +149,8 @@ fn run(set: RuleSet, bounds: Bounds, start: &[u8], goal: &[u8]) {
     let mut plan = [0u8; MOVE_LIMIT];
     let entries = entries_of(set.count, bounds.reach);
     let table = &mut space[0..2 * entries];
-    print(
-        b"built=",
-        builder::build_table(set, bounds.reach, table) as u64,
-    );
+    let built = builder::build_table(set, bounds.reach, table);
+    print(b"built=", built.outcome as u64);
     let answer = search::search(
         set,
         bounds.reach,

@@ -1,14 +1,17 @@
-// Builds the table of a rule file for reach 3, checks it, and prints what it holds. Standard input is a line with two
-// numbers and a space between, how often to build and how often to check, and then the file. Of a refused file the
-// program prints the outcome alone. `bench/run` times it beside the plain comparison of all macros in Rust.
+// Builds the table of a rule file for reach 3, checks it, and prints what it holds, and both unions over its marks as the
+// last build and the last check gave them. Standard input is a line with two numbers and a space between, how often to
+// build and how often to check, and then the file. Of a refused file the program prints the outcome alone. `bench/run`
+// times it beside the plain comparison of all macros in Rust.
 use libc::STDIN_FILENO;
 use libc::STDOUT_FILENO;
+use macros_spec::Touched;
 use model_spec::MAX_RULES;
 use model_spec::RuleSet;
 use std::num::wrapping_add_u64;
 use tables::KEPT;
 use tables::entry_at;
 use tables::sequence_count;
+use unions_spec::TableAnswer;
 ghost use Prim.Native.Nat.{_≤_};
 ghost use lib.ListN.{length};
 
@@ -24,6 +27,12 @@ struct Totals {
     marks: u64,
     sum: u64,
     sums: u64,
+}
+
+// Of builds or checks: how many were not refused, and the unions that the last one gave.
+struct Runs {
+    passed: u64,
+    touched: Touched,
 }
 
 // A number with one digit more; of a long number the last six digits count.
@@ -80,26 +89,41 @@ fn totals_of(table: &[u8]) -> Totals {
     totals
 }
 
-// Builds the table so many times; gives how many of the builds were not refused.
-fn build(set: RuleSet, table: &mut [u8], times: u32) -> u64 {
-    let mut built: u64 = 0;
-    for _ in 0..times {
-        if builder::build_table(set, 3, table) == 0 {
-            built = wrapping_add_u64(built, 1);
-        }
-    }
-    built
+// No run yet.
+fn no_runs() -> Runs {
+    let touched = Touched {
+        reads: 0,
+        writes: 0,
+    };
+    Runs { passed: 0, touched }
 }
 
-// Checks the table so many times; gives how often it was accepted.
-fn check(set: RuleSet, table: &[u8], times: u32) -> u64 {
-    let mut accepted: u64 = 0;
-    for _ in 0..times {
-        if checker::check_table(set, 3, table) == 0 {
-            accepted = wrapping_add_u64(accepted, 1);
-        }
+// The runs with one more.
+fn with_run(runs: Runs, answer: TableAnswer) -> Runs {
+    let mut passed = runs.passed;
+    if answer.outcome == 0 {
+        passed = wrapping_add_u64(passed, 1);
     }
-    accepted
+    let touched = answer.touched;
+    Runs { passed, touched }
+}
+
+// Builds the table so many times.
+fn build(set: RuleSet, table: &mut [u8], times: u32) -> Runs {
+    let mut runs = no_runs();
+    for _ in 0..times {
+        runs = with_run(runs, builder::build_table(set, 3, table));
+    }
+    runs
+}
+
+// Checks the table so many times.
+fn check(set: RuleSet, table: &[u8], times: u32) -> Runs {
+    let mut runs = no_runs();
+    for _ in 0..times {
+        runs = with_run(runs, checker::check_table(set, 3, table));
+    }
+    runs
 }
 
 fn print(label: &[u8], number: u64) {
@@ -108,20 +132,27 @@ fn print(label: &[u8], number: u64) {
     io::write_all(STDOUT_FILENO, b"\n");
 }
 
+fn print_touched(touched: Touched) {
+    print(b"reads=", touched.reads as u64);
+    print(b"writes=", touched.writes as u64);
+}
+
 // Builds and checks the table of a rule set.
 fn run(set: RuleSet, builds: u32, checks: u32) {
     let mut space = [0u8; 61568];
     let entries = entries_of(set.count);
     let table = &mut space[0..2 * entries];
     let built = build(set, table, builds);
-    let accepted = check(set, table, checks);
+    let checked = check(set, table, checks);
     let totals = totals_of(table);
     print(b"entries=", entries as u64);
     print(b"marks=", totals.marks);
     print(b"sum=", totals.sum);
     print(b"sums=", totals.sums);
-    print(b"built=", built);
-    print(b"accepted=", accepted);
+    print(b"built=", built.passed);
+    print_touched(built.touched);
+    print(b"accepted=", checked.passed);
+    print_touched(checked.touched);
 }
 
 // Reads the two numbers and the file.

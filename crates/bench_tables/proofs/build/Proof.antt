@@ -8,10 +8,13 @@ use Rattle.bench_tables.proofs.build.Statement.{statement}
 use Rattle.bench_tables.proofs.build.Tie as tie
 
 abbrev Inv-loop : tie.InvT-loop
-Inv-loop set table₀ times built₀ counter₀ table built counter = (counter ≤ times) × (length table ≡ length table₀)
+Inv-loop set table₀ times runs₀ counter₀ table runs counter = (counter ≤ times) × (length table ≡ length table₀)
 
 abbrev μ-loop : tie.MeasureT-loop
-μ-loop set table₀ times built₀ counter₀ table built counter = times - counter
+μ-loop set table₀ times runs₀ counter₀ table runs counter = times - counter
+
+no-runs-requires : tie.Need-no-runs-requires Inv-loop μ-loop
+no-runs-requires c κs = search needs
 
 loop-holds : tie.Need-loop-holds Inv-loop μ-loop
 loop-holds c = search needs
@@ -19,8 +22,8 @@ loop-holds c = search needs
 build-table-requires : tie.Need-build-table-requires Inv-loop μ-loop
 build-table-requires c κs = search needs
 
-wrapping-add-u64-requires : tie.Need-wrapping-add-u64-requires Inv-loop μ-loop
-wrapping-add-u64-requires c κs = search needs
+with-run-requires : tie.Need-with-run-requires Inv-loop μ-loop
+with-run-requires c κs = search needs
 
 add-counter : tie.Need-add-counter Inv-loop μ-loop
 add-counter c = search needs
@@ -43,9 +46,10 @@ build-spec =
     (tie.spec
     Inv-loop
     μ-loop
+    no-runs-requires
     loop-holds
     build-table-requires
-    wrapping-add-u64-requires
+    with-run-requires
     add-counter
     loop-less
     loop-again

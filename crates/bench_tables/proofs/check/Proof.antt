@@ -6,10 +6,13 @@ use Rattle.bench_tables.proofs.check.Statement.{statement}
 use Rattle.bench_tables.proofs.check.Tie as tie
 
 abbrev Inv-loop : tie.InvT-loop
-Inv-loop set table times accepted₀ counter₀ accepted counter = counter ≤ times
+Inv-loop set table times runs₀ counter₀ runs counter = counter ≤ times
 
 abbrev μ-loop : tie.MeasureT-loop
-μ-loop set table times accepted₀ counter₀ accepted counter = times - counter
+μ-loop set table times runs₀ counter₀ runs counter = times - counter
+
+no-runs-requires : tie.Need-no-runs-requires Inv-loop μ-loop
+no-runs-requires c κs = search needs
 
 loop-holds : tie.Need-loop-holds Inv-loop μ-loop
 loop-holds c = search needs
@@ -17,8 +20,8 @@ loop-holds c = search needs
 check-table-requires : tie.Need-check-table-requires Inv-loop μ-loop
 check-table-requires c κs = search needs
 
-wrapping-add-u64-requires : tie.Need-wrapping-add-u64-requires Inv-loop μ-loop
-wrapping-add-u64-requires c κs = search needs
+with-run-requires : tie.Need-with-run-requires Inv-loop μ-loop
+with-run-requires c κs = search needs
 
 add-counter : tie.Need-add-counter Inv-loop μ-loop
 add-counter c = search needs
@@ -38,9 +41,10 @@ check-spec =
     (tie.spec
     Inv-loop
     μ-loop
+    no-runs-requires
     loop-holds
     check-table-requires
-    wrapping-add-u64-requires
+    with-run-requires
     add-counter
     loop-less
     loop-again
