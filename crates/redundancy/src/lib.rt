@@ -5,7 +5,6 @@ use model_spec::PLACE_COUNT;
 use model_spec::RuleSet;
 use moves::cost_of;
 use moves::has_unknown_move;
-use moves::rule_at;
 use states::after;
 use states::runs;
 use states::same_entries;
@@ -47,7 +46,7 @@ fn leads(
     let mut entries = condition;
     let mut i: usize = 0;
     while i < moves.len() {
-        let rule = rule_at(set, moves[i]);
+        let rule = set.rules[(moves[i] - 1) as usize];
         let asked = rule.condition;
         let last = rule.effect;
         if !runs(&asked, &entries) {

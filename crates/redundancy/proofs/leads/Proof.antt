@@ -9,58 +9,64 @@ use borrow.Author.Needs.{needs}
 use Rattle.model_spec.specs.Rules.{ruleAt, runIn}
 use Rattle.model_spec.proofs.LoopLaws.{failed, passed}
 use Rattle.macros_spec.specs.Redundancy.{endsIn}
-use Rattle.macros_spec.proofs.MoveLaws.{numbered-at, rule-among}
+use Rattle.macros_spec.proofs.MoveLaws.{numbered-at}
 use Rattle.macros_spec.proofs.MoveLoopLaws.{leads-go, leads-stop, leads-end}
 use Rattle.redundancy.proofs.leads.Statement.{statement}
 use Rattle.redundancy.proofs.leads.Tie as tie
 
 abbrev Inv-loop : tie.InvT-loop
-Inv-loop set moves effect entries₀ i₀ entries i =
+Inv-loop moves set effect entries₀ i₀ entries i =
     (i ≤ length moves) × (endsIn (runIn set (drop i moves) entries) effect ≡ endsIn (runIn set moves entries₀) effect)
 
 abbrev μ-loop : tie.MeasureT-loop
-μ-loop set moves effect entries₀ i₀ entries i = length moves - i
+μ-loop moves set effect entries₀ i₀ entries i = length moves - i
 
 loop-holds : tie.Need-loop-holds Inv-loop μ-loop
 loop-holds c = (search needs, refl)
 
-shared-slice-read-rule-at : tie.Need-shared-slice-read-rule-at Inv-loop μ-loop
-shared-slice-read-rule-at c = search needs
-
-rule-at-requires : tie.Need-rule-at-requires Inv-loop μ-loop
-rule-at-requires c κs = search needs
-
-runs-requires : tie.Need-runs-requires Inv-loop μ-loop
-runs-requires c κs = search needs
-
-abbrev ruleOf : tie.After-runs Inv-loop μ-loop → tie.After-rule-at Inv-loop μ-loop
-ruleOf c =
-    let copied = c .before .before .before in
-    copied .before .before
-
-abbrev headOf : tie.After-rule-at Inv-loop μ-loop → tie.At-loop Inv-loop μ-loop
-headOf c = c .before .before .before
+shared-slice-read-rule : tie.Need-shared-slice-read-rule Inv-loop μ-loop
+shared-slice-read-rule c = search needs
 
 abbrev startOf : tie.At-loop Inv-loop μ-loop → tie.Start Inv-loop μ-loop
 startOf c = c .before .before
 
--- the rule is that of the next move
-rule-is : (c : tie.After-rule-at Inv-loop μ-loop)
-    → let s = startOf (headOf c) .args in
-    c .rule-at .result ≡ ruleAt (s .set) (getD (s .moves .now) (headOf c .loop .i) 0)
-rule-is c =
-    let at = headOf c in
+-- the next move is the number of one of 31 rules
+number : (c : tie.After-shared-slice-known2 Inv-loop μ-loop)
+    → let at = c .before .before in
+    let next = getD (startOf at .args .moves .now) (at .loop .i) 0 in (1 ≤ next) × (next ≤ 31)
+number c =
+    let at = c .before .before in
     let s = startOf at in
-    let number = numbered-at 31 (s .args .moves .now) (at .loop .i) (s .pre) (omega arith) in
-    c .rule-at .ensures ∙ rule-among (s .args .set) _ (number .1)
+    numbered-at 31 (s .args .moves .now) (at .loop .i) (s .pre) (omega arith)
+
+sub-rule : tie.Need-sub-rule Inv-loop μ-loop
+sub-rule c = omega (arith, number c)
+
+cast-rule : tie.Need-cast-rule Inv-loop μ-loop
+cast-rule c = omega (arith, number c)
+
+mul-rule : tie.Need-mul-rule Inv-loop μ-loop
+mul-rule c = omega (arith, number c)
+
+element-copy-out-rule : tie.Need-element-copy-out-rule Inv-loop μ-loop
+element-copy-out-rule c = omega (arith, number c)
+
+runs-requires : tie.Need-runs-requires Inv-loop μ-loop
+runs-requires c κs = search needs
+
+abbrev headOf : tie.After-runs Inv-loop μ-loop → tie.At-loop Inv-loop μ-loop
+headOf c =
+    let copied = c .before .before .before in
+    let rule = copied .before .before in
+    rule .before .before .before
 
 returns : tie.Need-returns Inv-loop μ-loop
+unfolding ruleAt
 returns c =
-    let rule = ruleOf (c .before) in
-    let at = headOf rule in
+    let at = headOf (c .before) in
     let s = startOf at .args in
-    leads-stop (s .set) (s .moves .now) (at .loop .i) (at .loop .entries) (s .t4) _ (at .loop .inv .1)
-    _ (rule-is rule) (omega arith) (failed (c .before .runs .ensures) (c .if1 .taken))
+    leads-stop (s .t1) (s .moves .now) (at .loop .i) (at .loop .entries) (s .t4) _ (at .loop .inv .1) _ refl
+    (omega arith) (failed (c .before .runs .ensures) (c .if1 .taken))
 
 after-requires : tie.Need-after-requires Inv-loop μ-loop
 after-requires c κs = search needs
@@ -72,14 +78,14 @@ loop-less : tie.Need-loop-less Inv-loop μ-loop
 loop-less c = search needs
 
 loop-again : tie.Need-loop-again Inv-loop μ-loop
+unfolding ruleAt
 loop-again c =
     let ran = c .before .before .before in
-    let rule = ruleOf (ran .before) in
-    let at = headOf rule in
+    let at = headOf (ran .before) in
     let s = startOf at .args in (
       search needs,
-      leads-go (s .set) (s .moves .now) (at .loop .i) (at .loop .entries) (s .t4) _ (at .loop .inv .1)
-          _ (rule-is rule) (omega arith) (passed (ran .before .runs .ensures) (ran .if1 .left)) _ (c .after .ensures),
+      leads-go (s .t1) (s .moves .now) (at .loop .i) (at .loop .entries) (s .t4) _ (at .loop .inv .1) _ refl
+          (omega arith) (passed (ran .before .runs .ensures) (ran .if1 .left)) _ (c .after .ensures),
     )
 
 same-entries-requires : tie.Need-same-entries-requires Inv-loop μ-loop
@@ -91,7 +97,7 @@ returns-2 c =
     let at = ended .before in
     let s = startOf at .args in
     c .same-entries .ensures
-    ∙ leads-end (s .set) (s .moves .now) (at .loop .i) (at .loop .entries) (s .t4) _ (at .loop .inv .1) (omega arith)
+    ∙ leads-end (s .t1) (s .moves .now) (at .loop .i) (at .loop .entries) (s .t4) _ (at .loop .inv .1) (omega arith)
 
 pub leads-spec : {M : Type 1} → statement M
 leads-spec =
@@ -100,8 +106,11 @@ leads-spec =
     Inv-loop
     μ-loop
     loop-holds
-    shared-slice-read-rule-at
-    rule-at-requires
+    shared-slice-read-rule
+    sub-rule
+    cast-rule
+    mul-rule
+    element-copy-out-rule
     runs-requires
     returns
     after-requires
