@@ -69,8 +69,8 @@ module _ (table : List ℕ) where
     lines-all = let e : length table / 2 - 0 ≡ length table / 2 = omega arith in rw e
 
     -- those of the entry at i come first
-    pub lines-more : (i entry : ℕ) → i < length table / 2 → entry ≡ entryAt table i → linesFrom i ≡ entryLines set i entry
-        ++ linesFrom (i + 1)
+    pub lines-more : (i entry : ℕ) → i < length table / 2 → entry ≡ entryAt table i
+        → linesFrom i ≡ entryLines set i entry ++ linesFrom (i + 1)
     lines-more i entry h e = rw (left-more i (length table / 2) h, e)
 
     pub lines-end : (i : ℕ) → length table / 2 ≤ i → linesFrom i ≡ []

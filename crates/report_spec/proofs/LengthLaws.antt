@@ -144,7 +144,8 @@ module _ (set : RuleSet) (few : set .count ≤ 31) where
         numeral-length listedReach .2 (omega arith),
         numeral-length (set .count) .1 (omega arith),
         numeral-length (length (markedIndices set)) .0,
-        flat-length (markLines set) 0 111 (markedIndices set) (λ k h. mark-length _ (in-getD (markedIndices set) k 0 h)),
+        flat-length (markLines set) 0 111 (markedIndices set)
+            (λ k h. mark-length _ (in-getD (markedIndices set) k 0 h)),
         marked-count,
       ))
 

@@ -74,12 +74,13 @@ module _ (set : RuleSet) where
   marked-lines formed i d =
       let own = sequenceAt set 2 i in
       let numbered = index-sequence set 2 i (marked-entry-iff i .0 d .0) .1 in
-      let touched = touchedIn set own in record {
-        reads = positionsOf (touched .reads);
-        writes = positionsOf (touched .writes);
+      let reads = touchedIn set own .reads in
+      let writes = touchedIn set own .writes in record {
+        reads = positionsOf reads;
+        writes = positionsOf writes;
         lines = refl;
-        readsExactly = positions-exactly (touched .reads) (SequenceReads set own) (reads-iff set formed own numbered);
-        writesExactly = positions-exactly (touched .writes) (SequenceWrites set own) (writes-iff set formed own numbered);
+        readsExactly = positions-exactly reads (SequenceReads set own) (reads-iff set formed own numbered);
+        writesExactly = positions-exactly writes (SequenceWrites set own) (writes-iff set formed own numbered);
       }
 
   module _ (few : set .count ≤ 31) where

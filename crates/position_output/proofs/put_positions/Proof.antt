@@ -1,20 +1,20 @@
--- `position_output::put_positions` meets its contract. The invariant: the members up to position k stand at the array's
+-- `position_output::put_positions` meets its contract. The invariant: the members before place k stand at the array's
 -- front.
 -- Assumes nothing.
 use mathlib.Core.Path.{_≡_, refl, _∙_}
 use mathlib.Core.Logic.{⊎-elim}
 use Prim.Native.Nat.{_-_, _≤_}
 use native.Mathlib.Omega.{arith}
-use lib.ListN.{length, take, length-set}
+use lib.ListN.{length, length-set}
 use borrow.Author.Needs.{needs}
 use Rattle.output_laws.proofs.OverlayLaws.{laid-append}
-use Rattle.report_laws.proofs.PositionLoopLaws.{positionsTo, position-written, position-passed, positions-line}
+use Rattle.report_laws.proofs.PositionLoopLaws.{Written, position-written, position-passed, positions-line}
 use Rattle.position_output.proofs.put_positions.Statement.{statement}
 use Rattle.position_output.proofs.put_positions.Tie as tie
 
 abbrev Inv-loop : tie.InvT-loop
 Inv-loop text at key members positions₀ count₀ k₀ positions count k =
-    (length positions ≡ 16) × (count ≤ k) × (k ≤ 16) × (take count positions ≡ positionsTo members k)
+    (length positions ≡ 16) × (count ≤ k) × (k ≤ 16) × Written members k count positions
 
 abbrev μ-loop : tie.MeasureT-loop
 μ-loop text at key members positions₀ count₀ k₀ positions count k = 16 - k
@@ -54,17 +54,18 @@ loop-again c =
     let turn = c .before in
     let l = turn .before .loop in
     let members = startOf (turn .before) .args .members in
+    let h = turn .loop-test .taken in
     ⊎-elim (λ w. (
       rw (w .1) (length-set (l .positions) (l .count) _ ∙ l .inv .0),
       omega (arith, w .2),
       omega arith,
-      rw (w .1, w .2) (position-written members (l .k) (l .count) (l .positions) (l .inv .3) (omega arith) (w .0 .taken)),
+      rw (w .1, w .2) (position-written members (l .k) (l .count) _ (l .inv .3) h (w .0 .taken) (omega arith)),
     ))
     (λ w. (
       rw (w .1) (l .inv .0),
       omega (arith, w .2),
       omega arith,
-      rw (w .1, w .2) (l .inv .3 ∙ position-passed members (l .k) (w .0 .left)),
+      rw (w .1, w .2) (position-passed members (l .k) (l .count) _ (l .inv .3) h (w .0 .left)),
     ))
     (c .if1 .came)
 
@@ -87,7 +88,7 @@ returns c =
     let left = worded .before .before in
     let l = left .before .loop in
     let s = startOf (left .before) .args in
-    let line = positions-line (s .members) (l .k) (l .count) (s .key .now) (l .positions) (l .inv .3) (omega arith) in
+    let line = positions-line (s .members) (l .k) (l .count) _ (l .inv .3) (left .loop-test .left) (s .key .now) in
     rw (← line) (laid-append (worded .put-word .ensures) (listed .put-numbers .ensures))
 
 pub put-positions-spec : {M : Type 1} → statement M

@@ -1,5 +1,5 @@
--- `sequence_output::put_sequence` meets its contract: no rule, one, or two with a comma between them. A rule's number is a
--- byte, and so has at most three digits.
+-- `sequence_output::put_sequence` meets its contract: no rule, one, or two with a comma between them. A rule's number
+-- is a byte, and so has at most three digits.
 -- Assumes nothing.
 use Prim.Native.Nat.{ℕ, _+_, _-_, _/_, _%_, _<_}
 use native.Mathlib.Omega.{arith}

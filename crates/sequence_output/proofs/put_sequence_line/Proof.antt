@@ -1,5 +1,5 @@
--- `sequence_output::put_sequence_line` meets its contract: the key, the rule numbers and the line feed, laid one after the
--- other.
+-- `sequence_output::put_sequence_line` meets its contract: the key, the rule numbers and the line feed, laid one after
+-- the other.
 -- Assumes nothing.
 use borrow.Author.Needs.{needs}
 use Rattle.output_laws.proofs.OverlayLaws.{laid-append}
