@@ -7,7 +7,6 @@ use Rattle.model_spec.specs.declared.RuleSet.{RuleSet}
 use Rattle.macros_spec.specs.Composition.{composed, asVectors, linesOf}
 use Rattle.macros_spec.specs.Answers.{touchedIn}
 use Rattle.macros_spec.specs.how.Touching.{widePositions, touchedWithin}
-use Rattle.macros_spec.specs.declared.Touched.{Touched}
 use Rattle.macros_spec.specs.declared.Vectors.{Vectors}
 use Rattle.macros_spec.proofs.ExtensionLaws.{lines-vectors}
 use Rattle.macros_spec.proofs.TouchedLaws.{touched-within}
