@@ -6,7 +6,9 @@
 // - `s` change the set's number of positions and its number of rules to these two: whether it is valid
 // - `b` a reach and a size: fill that many bytes with 170 and build a table in them: the outcome, its marks in order,
 //   each as `2,1 for 1,2`, and how many entries are kept. Of more than 60 marks only the number is printed, and the
-//   sum over them of the index times one more than the witness. Of a refusal: whether the bytes are zeros throughout
+//   sum over them of the index times one more than the witness. Of a refusal: whether the bytes are zeros throughout.
+//   Last come the positions that the marked sequences read and write, as two numbers, the lowest binary digit for
+//   position 1; so they do after `c` and `k`
 // - `c` a reach, a size and entries, as `6:7,16:12`: fill that many bytes with 255, put these values at these
 //   indices, and check that table: the outcome
 // - `k` a reach, a size and bytes, as `10:4,11:0`: put these values at these places of the table that stands, and
@@ -30,6 +32,7 @@ use cases_common::number_of;
 use cases_common::up_to;
 use libc::STDIN_FILENO;
 use libc::STDOUT_FILENO;
+use macros_spec::Touched;
 use model_spec::RuleSet;
 use tables::KEPT;
 use tables::entry_at;
@@ -207,17 +210,8 @@ fn print_table(count: u8, table: &[u8])
     print(b" kept");
 }
 
-// Builds a table over bytes of 170.
-fn print_built(set: RuleSet, reach: usize, table: &mut [u8])
-    requires { ⌜ length (now table) ≤ 65536 ⌝ }
-{
-    fill_from(table, 0, 170);
-    let outcome = builder::build_table(set, reach, table);
-    print_byte(outcome);
-    if outcome == 0 {
-        print_table(set.count, table);
-        return;
-    }
+// What a refused build leaves.
+fn print_refused(table: &[u8]) {
     if zeros(table) {
         print(b" zeros");
         return;
@@ -225,17 +219,47 @@ fn print_built(set: RuleSet, reach: usize, table: &mut [u8])
     print(b" not zeros");
 }
 
+// The positions that the marked sequences read and write, as numbers.
+fn print_touched(touched: Touched) {
+    print(b"; reads ");
+    print_number(touched.reads as u64);
+    print(b"; writes ");
+    print_number(touched.writes as u64);
+}
+
+// What a check gives.
+fn print_check(set: RuleSet, reach: usize, table: &[u8]) {
+    let answer = checker::check_table(set, reach, table);
+    print_byte(answer.outcome);
+    print_touched(answer.touched);
+}
+
+// Builds a table over bytes of 170.
+fn print_built(set: RuleSet, reach: usize, table: &mut [u8])
+    requires { ⌜ length (now table) ≤ 65536 ⌝ }
+{
+    fill_from(table, 0, 170);
+    let answer = builder::build_table(set, reach, table);
+    print_byte(answer.outcome);
+    if answer.outcome == 0 {
+        print_table(set.count, table);
+    } else {
+        print_refused(table);
+    }
+    print_touched(answer.touched);
+}
+
 // Checks a table of these entries, the others kept.
 fn print_checked(set: RuleSet, reach: usize, entries: &[u8], table: &mut [u8]) {
     fill_from(table, 0, 255);
     put_all(true, entries, table);
-    print_byte(checker::check_table(set, reach, table));
+    print_check(set, reach, table);
 }
 
 // Checks the table with these bytes changed.
 fn print_changed(set: RuleSet, reach: usize, bytes: &[u8], table: &mut [u8]) {
     put_all(false, bytes, table);
-    print_byte(checker::check_table(set, reach, table));
+    print_check(set, reach, table);
 }
 
 // The answer to `b`, `c` or `k`, on a front part of the table.

@@ -24,18 +24,18 @@ pub fn refused(outcome: u8) -> TableAnswer
     TableAnswer { outcome, touched }
 }
 
-// Whether both unions are this set.
-fn are_full(unions: Touched, all: u16) -> bool
-    ensures { λ r. ⌜ r ≡ (eqb (unions .reads) all && eqb (unions .writes) all) ⌝ }
+// Whether both unions have all positions that a mark can add.
+fn are_full(sets: Touched, wide: u16) -> bool
+    ensures { λ r. ⌜ r ≡ (eqb (sets .reads) wide && eqb (sets .writes) wide) ⌝ }
 {
-    if unions.reads != all {
+    if sets.reads != wide {
         return false;
     }
-    unions.writes == all
+    sets.writes == wide
 }
 
-// Both unions with the entry of one sequence more, of which these are the vectors: as they were where it is kept. Unions
-// that have every wide position already are not added to: most tables come to that after some marks.
+// Both unions with the entry of one sequence more, of which these are the vectors: as they were where it is kept. Full
+// unions are left at once: most tables come to that after some marks, and the check of a table calls this for each.
 pub fn with_mark(before: Touched, wide: u16, entry: usize, vectors: Vectors) -> Touched
     ensures { λ r. ⌜
         (let own = touchedWithin wide (linesOf vectors) in

@@ -242,12 +242,12 @@ united-all set reach marked table same =
     λ i. record { reads = reads i; writes = writes i }
 
 -- unions that have every position that is looked at stay as they are
-pub united-full : (wide : ℕ) → wide < 65536 → (before : Touched) → before .reads ≡ wide → before .writes ≡ wide
-    → (o : Option Lines) → united before (touchedWithin wide o) ≡ before
+pub united-full : (wide : ℕ) → wide < 65536 → (o : Option Lines) (before : Touched) → before .reads ≡ wide
+    → before .writes ≡ wide → united before (touchedWithin wide o) ≡ before
 unfolding united touchedWithin
-united-full wide h before r w none =
+united-full wide h none before r w =
     λ i. record { reads = or-zero-r (before .reads) i; writes = or-zero-r (before .writes) i }
-united-full wide h before r w (some m) =
+united-full wide h (some m) before r w =
     let reads = full (before .reads) r (readAt m) in
     let writes = full (before .writes) w (writtenAt m) in
     λ i. record { reads = reads i; writes = writes i }

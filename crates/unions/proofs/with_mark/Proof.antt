@@ -1,17 +1,19 @@
--- `unions::with_mark` meets its contract: a kept entry leaves both unions, a mark adds what its sequence touches, which
--- is nothing where they are full.
+-- `unions::with_mark` meets its contract: a kept entry leaves both unions, a mark adds what its sequence touches.
 -- Assumes nothing.
-use mathlib.Core.Path.{_≡_, sym, ap, _∙_}
+use mathlib.Core.Path.{_≡_, refl, sym, ap, _∙_}
 use mathlib.Core.Logic.{_≢_}
-use mathlib.Core.Bool.{not, cond}
-use Prim.Native.Nat.{ℕ}
+use mathlib.Core.Bool.{Bool, true, false, not, cond}
+use mathlib.Core.Option.{Option}
+use Prim.Native.Nat.{ℕ, _<_}
+use native.Mathlib.Omega.{arith}
 use lib.Dec.{eqb}
 use lib.Bits.{bitOr}
-use borrow.Author.Tests.{eq-eqb, ne-eqb, eqb-true}
+use borrow.Author.Tests.{eqb-true, eq-eqb, ne-eqb}
 use borrow.Author.Needs.{needs}
 use Rattle.theory_spec.proofs.ListLaws.{and-split}
-use Rattle.macros_spec.specs.Composition.{linesOf}
+use Rattle.macros_spec.specs.Composition.{Lines, linesOf}
 use Rattle.macros_spec.specs.declared.Touched.{Touched}
+use Rattle.macros_spec.specs.how.Touching.{touchedWithin}
 use Rattle.tables_spec.specs.Table.{kept}
 use Rattle.unions_spec.specs.how.United.{united}
 use Rattle.unions_spec.proofs.UnionLaws.{united-full}
@@ -28,9 +30,15 @@ module _ (entry : ℕ) (before touched : Touched) where
   unfolding united
   adds m own e = ap (united before) e ∙ sym (rw (ne-eqb entry kept m))
 
-  -- nothing is added to full unions
-  stays : entry ≢ kept → united before touched ≡ before → before ≡ cond (not (eqb entry kept)) (united before touched) before
-  stays m e = sym (rw (ne-eqb entry kept m) e)
+-- where there is nothing to add
+full : (entry : ℕ) (before : Touched) (wide : ℕ) (o : Option Lines) → wide < 65536 → before .reads ≡ wide
+    → before .writes ≡ wide
+    → before ≡ cond (not (eqb entry kept)) (united before (touchedWithin wide o)) before
+full entry before wide o h r w = go (not (eqb entry kept))
+  where
+    go : (b : Bool) → before ≡ cond b (united before (touchedWithin wide o)) before
+    go true = sym (united-full wide h o before r w)
+    go false = refl
 
 returns : tie.Need-returns
 returns c = let s = c .before .args in keeps (s .entry) (s .before) _ (c .if1 .taken)
@@ -40,13 +48,12 @@ are-full-requires c κs = search needs
 
 returns-2 : tie.Need-returns-2
 returns-2 c =
-    let looked = c .before in
-    let start = looked .before .before in
-    let s = start .args in
-    let full = and-split (eqb (s .before .reads) (s .wide)) (eqb (s .before .writes) (s .wide))
-    (sym (looked .are-full .ensures) ∙ c .if2 .taken) in
-    stays (s .entry) (s .before) _ (looked .before .if1 .left)
-    (united-full (s .wide) (search needs) (s .before) (eqb-true _ _ (full .0)) (eqb-true _ _ (full .1)) (linesOf (s .vectors)))
+    let asked = c .before in
+    let s = asked .before .before .args in
+    let both = and-split (eqb (s .before .reads) (s .wide)) (eqb (s .before .writes) (s .wide))
+    (sym (asked .are-full .ensures) ∙ c .if2 .taken) in
+    full (s .entry) (s .before) (s .wide) (linesOf (s .vectors)) (omega arith)
+    (eqb-true (s .before .reads) (s .wide) (both .0)) (eqb-true (s .before .writes) (s .wide) (both .1))
 
 touched-requires : tie.Need-touched-requires
 touched-requires c κs = search needs
