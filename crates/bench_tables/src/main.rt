@@ -1,7 +1,7 @@
-// Builds the table of a rule file for reach 3, checks it, and prints what it holds, and both unions over its marks as the
-// last build and the last check gave them. Standard input is a line with two numbers and a space between, how often to
-// build and how often to check, and then the file. Of a refused file the program prints the outcome alone. `bench/run`
-// times it beside the plain comparison of all macros in Rust.
+// Builds the table of a rule file for reach 3, checks it, and prints what it holds, and both unions over its marks as
+// the last build and the last check gave them. Standard input is a line with two numbers and a space between, how often
+// to build and how often to check, and then the file. Of a refused file the program prints the outcome alone.
+// `bench/run` times it beside the plain comparison of all macros in Rust.
 use libc::STDIN_FILENO;
 use libc::STDOUT_FILENO;
 use macros_spec::Touched;
