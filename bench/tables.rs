@@ -1,5 +1,6 @@
 // The work of the program `bench_tables` in plain Rust, unproved: the macros of all sequences of at most three rules, each compared with every earlier one in turn until it is redundant
-// with one. Written from document 01 and source document 003; it shares nothing with the library. It reads files that have no fault.
+// with one, and the positions that the marked ones read and write. Written from documents 01 and 02 and source document 003; it shares nothing with the library. It reads
+// files that have no fault.
 use std::io::Read;
 
 // An entry below 16 is the variable of that place, counted from 0; from 16 on it is the constant `entry - 16`.
@@ -90,6 +91,24 @@ fn built(all: &[Macro]) -> Vec<usize> {
     (0..all.len()).map(|b| witness(b).unwrap_or(KEPT)).collect()
 }
 
+// The positions that a macro reads and those that it writes, the lowest bit for position 1: document 02.
+fn touched(m: &Macro, positions: u8) -> (u16, u16) {
+    let (mut reads, mut writes) = (0, 0);
+    for place in 0..positions {
+        let at = place as usize;
+        let named = |k: u8| k != place && (m.condition[k as usize] == place || m.effect[k as usize] == place);
+        reads |= ((m.condition[at] != place || (0..positions).any(named)) as u16) << place;
+        writes |= ((m.condition[at] != m.effect[at]) as u16) << place;
+    }
+    if m.admitted { (reads, writes) } else { (0, 0) }
+}
+
+// What the marked sequences of a table read and write.
+fn unions(all: &[Macro], table: &[usize], positions: u8) -> (u16, u16) {
+    let marked = (0..all.len()).filter(|&b| table[b] != KEPT).map(|b| touched(&all[b], positions));
+    marked.fold((0, 0), |(reads, writes), (more, changed)| (reads | more, writes | changed))
+}
+
 // Whether the first entry is kept, and each mark names an earlier sequence with which its own is redundant.
 fn accepted(all: &[Macro], table: &[usize]) -> bool {
     table[0] == KEPT && (0..all.len()).all(|b| table[b] == KEPT || table[b] < b && redundant(&all[b], &all[table[b]]))
@@ -118,16 +137,25 @@ fn main() {
         .collect();
     let own = std::array::from_fn(|place| if (place as u8) < positions { place as u8 } else { 16 });
     // as in the library, each build and each check composes the macros anew
-    let mut table = Vec::new();
+    let (mut table, mut passed) = (Vec::new(), 0);
+    let (mut of_build, mut of_check) = ((0, 0), (0, 0));
     for _ in 0..builds {
-        table = built(&sequences(own, &rules));
+        let all = sequences(own, &rules);
+        table = built(&all);
+        of_build = unions(&all, &table, positions);
     }
-    let passed = (0..checks).filter(|_| accepted(&sequences(own, &rules), &table)).count();
+    for _ in 0..checks {
+        let all = sequences(own, &rules);
+        let good = accepted(&all, &table);
+        of_check = if good { unions(&all, &table, positions) } else { (0, 0) };
+        passed += good as usize;
+    }
     let (mut marks, mut sum, mut sums) = (0, 0, 0);
     for entry in &table {
         marks += (*entry != KEPT) as usize;
         sum += entry;
         sums += sum;
     }
-    println!("outcome=0\nentries={}\nmarks={marks}\nsum={sum}\nsums={sums}\nbuilt={builds}\naccepted={passed}", table.len());
+    println!("outcome=0\nentries={}\nmarks={marks}\nsum={sum}\nsums={sums}\nbuilt={builds}", table.len());
+    println!("reads={}\nwrites={}\naccepted={passed}\nreads={}\nwrites={}", of_build.0, of_build.1, of_check.0, of_check.1);
 }
