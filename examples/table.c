@@ -27,8 +27,10 @@ static void show_help(void)
            "  --help     show this and do nothing else\n"
            "  --version  show the version and do nothing else\n",
            PLANNER_MAX_FILE, MOST_OF_RULES, PLANNER_MAX_REACH, PLANNER_MAX_TABLE);
-    printf("A sequence reads a position if it asks what it holds or puts that into another, and writes a position\n"
-           "if it changes it from some state.\n"
+    printf("A marked sequence is one that a search leaves out, since an earlier one does the same for no more.\n"
+           "Taken as a whole, a sequence reads a position if it asks what it holds or puts that into another, and\n"
+           "writes a position if it changes it from some state: what it sets itself before it asks is not read, what\n"
+           "it puts back is not written, and what no state admits does neither.\n"
            "A new table is written beside TABLE under a name of its own, TABLE.XXXXXX, then takes its place by a\n"
            "rename and keeps its mode. What fails before that, or a signal, leaves TABLE as it was and nothing\n"
            "beside it, save SIGKILL or a power cut: these may leave TABLE.XXXXXX. What fails later, standard output\n"

@@ -21,7 +21,10 @@ extern "C" {
 #endif
 
 /* The version of this header and of the library that it declares. The first number is raised when an entry changes,
- * the second when something is added. */
+ * the second when something is added: a program may refuse to be compiled with a header that it was not written for,
+ * by #if PLANNER_VERSION_MAJOR != 2.
+ * Since 2.0 planner_build_table and planner_check_table give a packed answer: a program that was written for 1.0 has
+ * to compare planner_outcome of it, for an accepted table can have other bits set; and a macro has 38 bytes, not 34. */
 #define PLANNER_VERSION_MAJOR 2
 #define PLANNER_VERSION_MINOR 0
 #define PLANNER_VERSION "2.0"
@@ -85,7 +88,8 @@ enum planner_outcome {
  * - reads the positions whose condition entry is a constant or another position's variable, and those whose variable is
  *   another position's condition or effect entry: it asks what they hold, or puts that elsewhere;
  * - writes the positions whose effect entry differs from their condition entry: from some state it changes them.
- * A position's own effect entry plays no part in what is read: x1 to 0 writes position 1 and reads none. A position
+ * A position's own effect entry plays no part in what is read: x1 to 0 writes position 1 and reads none. A sequence is
+ * taken as a whole: what it sets itself before it asks is not read, and what it puts back is not written. A position
  * with a single value is in neither set (no rule file has one, the least size is 2). A sequence that no state admits
  * reads and writes nothing. */
 #define PLANNER_MACRO_SIZE 38
