@@ -20,7 +20,7 @@ ghost use Rattle.model_spec.specs.Rules.{sequenceCost};
 ghost use Rattle.model_spec.specs.Validity.{WellFormed};
 ghost use Rattle.macros_spec.specs.Composition.{composed, asVectors};
 ghost use Rattle.tables_spec.specs.Table.{tableEntries, builtTable, builtEntry};
-ghost use Rattle.tables_spec.specs.Answers.{shapeCauses, builtWith, buildOutcome, builtBuffer, BuildMeaning};
+ghost use Rattle.tables_spec.specs.Answers.{shapeCauses, builtWith, builtBuffer, BuildMeaning};
 ghost use Rattle.tables_laws.specs.how.ShortSequences.{shortSequence};
 ghost use Rattle.unions_spec.specs.Unions.{tableTouched, answerWith, buildAnswer, UnionMeaning};
 

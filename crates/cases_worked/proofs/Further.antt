@@ -195,6 +195,10 @@ tables =
     ∷ record { asked = check swapped 1 (keptBytes ++ keptBytes ++ markBytes 0); expected = rejects 14 }
     ∷ []
 
+-- a rule that asks for equal values and changes nothing, and one that puts 0 into position 1
+abbrev equals : RuleSet
+equals = ruleSet "positions=2\nsizes=2,2\nrules=2\ncost=1\nif=x1,x1\nthen=x1,x1\ncost=1\nif=x1,x2\nthen=0,x2\n"
+
 -- planners that pass E and P6 fail these: beside a case, what such a one says. One that looks at the last mark alone
 -- fails the table of E, where that mark writes 2 alone
 abbrev unions : List Row
@@ -210,6 +214,8 @@ unions =
     ∷ record { asked = build E 1 6; expected = builds (answer 0 0 0) (replicate 6 255) }
     -- (1,1) alone is marked. Wrong: 1 and 2 are written, as of the built table
     ∷ record { asked = check E 2 (replicate 6 255 ++ markBytes 1 ++ replicate 6 255); expected = accepts 0 1 }
+    -- (1) reads both positions, (2,2) writes 1. Wrong: nothing is written, by one that ends where all is read
+    ∷ record { asked = check equals 2 (keptBytes ++ markBytes 0 ++ replicate 8 255 ++ markBytes 2); expected = accepts 3 1 }
     -- (1,1) is marked rightly, (1,2) wrongly. Wrong: 1 is written, by the marks before the fault
     ∷ record {
       asked =

@@ -1,5 +1,5 @@
--- The worked cases P1 to P11 of document 01, with the positions read and written that document 02 adds, and the table of
--- E: one table, proved together of the definitions, by evaluation.
+-- The worked cases P1 to P11 of document 01, with the positions read and written that document 02 adds, and the table
+-- of E: one table, proved together of the definitions, by evaluation.
 -- The rule sets are what `reading` gives of their files. Each search is asked with a plan buffer of exactly the move
 -- bound and with a longer one.
 use Prim.Native.Nat.{ℕ}

@@ -6,25 +6,23 @@ use mathlib.Core.Logic.{⊎-elim, inl, inr, _⊎_, _↔_, _≢_}
 use mathlib.Core.Bool.{Bool, true, false, not, _&&_, false≢true}
 use mathlib.Core.Option.{some}
 use mathlib.Core.List.{List}
-use Prim.Native.Nat.{ℕ, _+_, _%_, _≤_, _<_}
+use Prim.Native.Nat.{ℕ, _≤_, _<_}
 use native.Mathlib.Omega.{arith}
 use lib.Dec.{eqb}
 use lib.ListN.{getD}
-use Rattle.theory_spec.specs.Lists.{_∈_, any}
-use Rattle.theory_spec.specs.Sets.{has}
+use Rattle.theory_spec.specs.Lists.{any}
 use Rattle.theory_spec.specs.Sequences.{Sequence}
 use Rattle.theory_spec.proofs.ListLaws.{passes?, true-any, any-true, and-split, and-join, not-both}
 use Rattle.theory_spec.proofs.TestLaws.{below?, equal?, eqb-iff, not-iff}
 use Rattle.theory_spec.proofs.SetLaws.{has-none}
-use Rattle.model_spec.specs.States.{State, valueOf, valuesOf, applicable, successor, width}
-use Rattle.model_spec.specs.Rules.{StateOf, statesOf, runIn}
+use Rattle.model_spec.specs.States.{State, valueOf, valuesOf, applicable, successor}
+use Rattle.model_spec.specs.Rules.{StateOf, statesOf}
 use Rattle.model_spec.specs.Validity.{WellFormed}
 use Rattle.model_spec.specs.declared.RuleSet.{RuleSet}
 use Rattle.model_spec.proofs.StateLaws.{applicable-iff, values-at, width-beyond}
 use Rattle.model_spec.proofs.RedundancyLaws.{statesOf-iff}
 use Rattle.macros_spec.specs.Composition.{ownVariables, emptyLines}
-use Rattle.macros_spec.specs.Touched.{touchedBy, untouched, ManyValued, Names, NamedElsewhere, Reads, Writes}
-use Rattle.macros_spec.specs.Touched.{TouchMeaning}
+use Rattle.macros_spec.specs.Touched.{touchedBy, untouched, NamedElsewhere, Reads, Writes}
 use Rattle.macros_spec.specs.Answers.{Means, Changes}
 use Rattle.macros_spec.specs.declared.Macro.{Macro}
 use Rattle.macros_spec.proofs.VectorLaws.{value-at}
@@ -106,8 +104,8 @@ module _ (set : RuleSet) (formed : WellFormed set) (q : Sequence) (m : Macro) (m
           (value-at (m .effect) (m .condition) (m .effect) i (form .keepsEffect))
           (value-at (m .condition) (m .condition) (m .condition) i (form .keepsItself)) (alike none)))
 
-  pub writes-iff : Writes set m i ↔ Changes set q i
-  writes-iff = (written, changed)
+  pub changes-iff : Writes set m i ↔ Changes set q i
+  changes-iff = (written, changed)
 
 -- ── The empty sequence ───────────────────────────────────────────────────────────────────────────
 

@@ -3,23 +3,20 @@
 -- Assumes nothing.
 use mathlib.Core.Path.{_≡_, refl, sym, ap, _∙_, subst}
 use mathlib.Core.Logic.{⊎-elim, inl, inr, _⊎_, _↔_, _≢_}
-use mathlib.Core.Bool.{Bool, true, false, cond, true≢false, false≢true}
 use mathlib.Core.Option.{Option, some, none, Option·none-ne-some, Option·some-injective}
 use mathlib.Core.List.{List}
 use Prim.Native.Nat.{ℕ, _%_, _≤_, _<_}
 use native.Mathlib.Omega.{arith}
-use lib.ListN.{length, getD, set, length-set}
+use lib.ListN.{getD, set, length-set}
 use lib.Seq.{getD-set-same, getD-set-other, ext-getD}
 use Rattle.theory_spec.specs.Sequences.{Sequence}
-use Rattle.theory_spec.proofs.ListLaws.{passes?, not-both}
 use Rattle.theory_spec.proofs.TestLaws.{below?, equal?}
-use Rattle.model_spec.specs.States.{State, valueOf, valuesOf, applicable, successor, width}
+use Rattle.model_spec.specs.States.{State, valueOf, valuesOf, successor, width}
 use Rattle.model_spec.specs.Rules.{StateOf, runIn}
 use Rattle.model_spec.specs.Validity.{WellFormed}
 use Rattle.model_spec.specs.declared.RuleSet.{RuleSet}
 use Rattle.model_spec.proofs.StateLaws.{applicable-iff, values-at, values-length, value-constant}
-use Rattle.macros_spec.specs.Composition.{Lines}
-use Rattle.macros_spec.specs.Touched.{readAt, manyValued, ManyValued, Constant, NamesAnother, NamedElsewhere, Reads}
+use Rattle.macros_spec.specs.Touched.{ManyValued, NamedElsewhere, Reads}
 use Rattle.macros_spec.specs.Answers.{Means, Depends}
 use Rattle.macros_spec.specs.declared.Macro.{Macro}
 use Rattle.macros_spec.proofs.VectorLaws.{value-at, value-place}
@@ -74,13 +71,15 @@ module _ (rules : RuleSet) (formed : WellFormed rules) (q : Sequence) (m : Macro
       -- the other state meets the condition too
       meets-too : Meets s → Meets u
       meets-too met =
-          ext-getD 0 (valuesOf (m .condition) u) u (values-length (m .condition) u ∙ form .conditionLength ∙ sym (du .0))
-          (λ k h. values-at (m .condition) u k ∙ at k (omega (arith, h, values-length (m .condition) u, form .conditionLength)))
+          let wide-enough = values-length (m .condition) u ∙ form .conditionLength in
+          ext-getD 0 (valuesOf (m .condition) u) u (wide-enough ∙ sym (du .0))
+          (λ k h. values-at (m .condition) u k ∙ at k (omega (arith, h, wide-enough)))
         where
           own : valueOf (getD (m .condition) i 0) u ≡ getD u i 0
           own =
               ⊎-elim (λ c. absurd (unread (wide, inl c)))
-              (λ v. ⊎-elim (λ (e : getD (m .condition) i 0 % 16 ≡ i). value-place (getD (m .condition) i 0) u v ∙ ap (λ j. getD u j 0) e)
+              (λ v. ⊎-elim (λ (e : getD (m .condition) i 0 % 16 ≡ i).
+              value-place (getD (m .condition) i 0) u v ∙ ap (λ j. getD u j 0) e)
               (λ n. absurd (unread (wide, inr (inl (v, n))))) (equal? (getD (m .condition) i 0 % 16) i))
               (below? (getD (m .condition) i 0) 16)
 

@@ -32,7 +32,7 @@ use Rattle.macros_spec.proofs.MeaningLaws.{means-canonical, means-admit
 use Rattle.macros_spec.proofs.UniqueLaws.{means-unique}
 use Rattle.macros_spec.proofs.TouchedLaws.{touched-meaning, touched-unique}
 use Rattle.macros_spec.proofs.DependLaws.{depends-iff}
-use Rattle.macros_spec.proofs.ChangeLaws.{writes-iff, empty-untouched}
+use Rattle.macros_spec.proofs.ChangeLaws.{changes-iff, empty-untouched}
 use Rattle.macros_spec.proofs.AnswerLaws.{Answered, invalid, long, unknown, denied, given, answered}
 use Rattle.macros_spec.proofs.AnswerLaws.{answer-given}
 
@@ -147,7 +147,7 @@ module _ (set : RuleSet) (moves : Sequence) where
       → (has (macroAnswer set moves .touched .writes) i ≡ true) ↔ Changes set moves i
   macro-changes z i h =
       let written = macro-touches z .writes i h in
-      let changed = writes-iff set (macro-given-iff .0 z .0 .0 .formed) moves _ (macro-means z) i in
+      let changed = changes-iff set (macro-given-iff .0 z .0 .0 .formed) moves _ (macro-means z) i in
       (λ t. changed .0 (written .0 t), λ c. written .1 (changed .1 c))
 
   -- the macro is the one with the meaning, and so are the sets

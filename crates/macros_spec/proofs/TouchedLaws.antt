@@ -3,23 +3,23 @@
 -- Assumes nothing.
 use mathlib.Core.Path.{_≡_, refl, sym, ap, _∙_}
 use mathlib.Core.Logic.{_⊎_, inl, inr, ⊎-elim, _↔_, _≢_}
-use mathlib.Core.Bool.{Bool, true, false, not, _&&_, _||_}
+use mathlib.Core.Bool.{Bool, true, not, _&&_, _||_}
 use mathlib.Core.Option.{Option, some, none}
 use mathlib.Core.List.{List}
 use Prim.Native.Nat.{ℕ, _%_, _≤_, _<_}
 use native.Mathlib.Omega.{arith}
 use lib.Dec.{ltb, eqb}
 use lib.ListN.{getD}
-use borrow.Author.Tests.{ltb-true, ltb-false, lt-ltb, le-ltb}
+use borrow.Author.Tests.{ltb-true, lt-ltb}
 use Rattle.theory_spec.specs.Sets.{has, setOf}
 use Rattle.theory_spec.proofs.ListLaws.{passes?, not-both, or-split, or-left, or-right, same-test}
-use Rattle.theory_spec.proofs.TestLaws.{below?, equal?, ltb-iff, eqb-iff, not-iff, and-iff, any-below-iff}
+use Rattle.theory_spec.proofs.TestLaws.{below?, ltb-iff, eqb-iff, not-iff, and-iff, any-below-iff}
 use Rattle.theory_spec.proofs.SetLaws.{setOf-below, has-setOf, set-of, sets-equal}
 use Rattle.model_spec.specs.States.{isConstant, width}
 use Rattle.model_spec.specs.declared.RuleSet.{RuleSet}
 use Rattle.macros_spec.specs.Composition.{Lines}
 use Rattle.macros_spec.specs.Touched.{names, namedElsewhere, readAt, writtenAt, manyValued, touchedBy}
-use Rattle.macros_spec.specs.Touched.{ManyValued, Constant, Names, NamesAnother, NamedElsewhere, Reads, Writes}
+use Rattle.macros_spec.specs.Touched.{ManyValued, Constant, Names, NamesAnother, NamedElsewhere, Reads}
 use Rattle.macros_spec.specs.Touched.{touchedOf, TouchMeaning}
 use Rattle.macros_spec.specs.how.Touching.{widePositions, touchedWithin}
 use Rattle.macros_spec.specs.declared.Macro.{Macro}
@@ -120,7 +120,8 @@ pub reads? : (set : RuleSet) (m : Macro) (i : ℕ) → i < 16 → Reads set m i 
 reads? set m i h =
     let lines : Lines = record { condition = m .condition; effect = m .effect } in
     let tells = touched-meaning set lines (m .cost) .reads i h in
-    ⊎-elim (λ e. inl (tells .0 e)) (λ e. inr (λ r. not-both (tells .1 r) e)) (passes? (has (touchedBy set lines .reads) i))
+    ⊎-elim (λ e. inl (tells .0 e)) (λ e. inr (λ r. not-both (tells .1 r) e))
+    (passes? (has (touchedBy set lines .reads) i))
 
 -- two sets that tell the same are the same
 pub touched-unique : (set : RuleSet) (m : Macro) (t u : Touched) → TouchMeaning set m t → TouchMeaning set m u → t ≡ u

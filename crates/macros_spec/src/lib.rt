@@ -14,8 +14,8 @@ pub struct Touched {
     pub writes: u16,
 }
 
-// What the macro call gives: the outcome, 0, 7, 11, 13 or 17, the macro, and the positions that it reads and writes.
-// All zeros when refused.
+// What the macro call gives: the outcome, 0, 7, 11, 13 or 17, the macro, and the positions that it reads and writes;
+// macro and sets are all zeros when refused.
 pub struct MacroAnswer {
     pub outcome: u8,
     pub result: Macro,

@@ -9,11 +9,11 @@ use touched::touched;
 use touched::wide_positions;
 ghost use mathlib.Core.Path.{_≡_};
 ghost use Rattle.output_laws.specs.how.Overlay.{Laid};
-ghost use Rattle.report_laws.specs.how.Marks.{touchedAt, entryLines};
+ghost use Rattle.report_laws.specs.how.Marks.{indexTouched, entryLines};
 
 // The positions that the sequence of an index reads and writes.
 fn touched_at(set: RuleSet, index: usize) -> Touched
-    ensures { λ r. ⌜ r ≡ touchedAt set index ⌝ }
+    ensures { λ r. ⌜ r ≡ indexTouched set index ⌝ }
 {
     let own = profile_at(set, index);
     let vectors = own.vectors;

@@ -14,7 +14,7 @@ use Rattle.model_spec.specs.declared.RuleSet.{RuleSet}
 use Rattle.files_spec.specs.Text.{bytes, lineFeed, line}
 use Rattle.tables_spec.specs.Table.{kept, entryAt}
 use Rattle.report_spec.specs.Listing.{positionItems}
-use Rattle.report_laws.specs.how.Marks.{marks, tableMarks, sequenceText, touchedAt, markText, entryLines}
+use Rattle.report_laws.specs.how.Marks.{marks, tableMarks, sequenceText, indexTouched, markText, entryLines}
 use Rattle.report_laws.specs.how.Marks.{marksText}
 
 -- ── One entry ────────────────────────────────────────────────────────────────────────────────────
@@ -29,8 +29,8 @@ module _ (set : RuleSet) (i entry : ℕ) where
   pub entry-marked : entry ≢ kept → entryLines set i entry
       ≡ bytes "drop=" ++ sequenceText (set .count) i ++ (lineFeed ∷ [])
       ++ (bytes "for=" ++ sequenceText (set .count) entry ++ (lineFeed ∷ []))
-      ++ line "reads=" (positionItems (touchedAt set i .reads))
-      ++ line "moves=" (positionItems (touchedAt set i .writes))
+      ++ line "reads=" (positionItems (indexTouched set i .reads))
+      ++ line "moves=" (positionItems (indexTouched set i .writes))
   unfolding entryLines markText
   entry-marked h = rw (ne-eqb entry kept h)
 

@@ -20,7 +20,7 @@ use Rattle.tables_spec.proofs.TableLaws.{built-entry, built-length, built-least
 use Rattle.tables_laws.proofs.SequenceLoopLaws.{near-at}
 use Rattle.output_laws.proofs.OverlayLaws.{shown-number}
 use Rattle.report_spec.specs.Listing.{markedIndices, markLines, listingOf}
-use Rattle.report_laws.specs.how.Marks.{marks, tableMarks, touchedAt, markText, entryLines, marksText}
+use Rattle.report_laws.specs.how.Marks.{marks, tableMarks, indexTouched, markText, entryLines, marksText}
 use Rattle.report_laws.specs.how.Marks.{tableText}
 use Rattle.report_spec.proofs.ListLaws.{keep-same, flat-keep}
 use Rattle.report_laws.proofs.SequenceTextLaws.{text-at}
@@ -41,8 +41,8 @@ module _ (set : RuleSet) where
 
   module _ (formed : WellFormed set) where
     -- what the sequence of an index reads and writes
-    touched-at : (i : ℕ) → i < tableEntries set 2 → touchedAt set i ≡ touchedIn set (sequenceAt set 2 i)
-    unfolding touchedAt
+    touched-at : (i : ℕ) → i < tableEntries set 2 → indexTouched set i ≡ touchedIn set (sequenceAt set 2 i)
+    unfolding indexTouched
     touched-at i h = ap (touchedIn set) (near-at set formed 2 (omega arith) i h)
 
     -- the lines of a mark

@@ -1,20 +1,23 @@
 -- The marks of a listing: which indices they are, and which positions their sequences read and write.
 -- Assumes nothing.
-use mathlib.Core.Path.{_≡_, refl, sym, subst}
+use mathlib.Core.Path.{_≡_, refl, sym, ap, _∙_, subst}
 use mathlib.Core.Logic.{_↔_, _≢_}
 use mathlib.Core.Bool.{Bool, true, not}
+use mathlib.Core.List.{[]}
 use Prim.Native.Nat.{ℕ, _-_, _≤_, _<_}
 use native.Mathlib.Omega.{arith}
 use lib.Dec.{eqb}
 use Rattle.theory_spec.specs.Lists.{_∈_, Pairwise, numbersFrom}
 use Rattle.theory_spec.specs.Sets.{has}
 use Rattle.theory_spec.specs.Sequences.{Sequence}
-use Rattle.theory_spec.proofs.ListLaws.{in-keep, of-keep, pairwise-keep, of-numbersFrom, in-numbersFrom}
+use Rattle.theory_spec.proofs.ListLaws.{in-keep, of-keep, keep-none, pairwise-keep, of-numbersFrom, in-numbersFrom}
 use Rattle.theory_spec.proofs.TestLaws.{eqb-iff, not-iff}
+use Rattle.theory_spec.proofs.SetLaws.{has-none}
 use Rattle.model_spec.specs.Validity.{WellFormed}
 use Rattle.model_spec.specs.declared.RuleSet.{RuleSet}
 use Rattle.macros_spec.specs.Answers.{touchedIn, SequenceReads, SequenceWrites}
-use Rattle.macros_spec.proofs.SequenceTouchLaws.{reads-iff, writes-iff}
+use Rattle.macros_spec.specs.declared.Touched.{Touched}
+use Rattle.macros_spec.proofs.SequenceTouchLaws.{denied-untouched, reads-iff, writes-iff}
 use Rattle.tables_spec.specs.Table.{tableEntries, sequenceAt, kept, builtEntry, Prunable, LeastWitness}
 use Rattle.tables_spec.proofs.TableLaws.{index-sequence, sequence-index, built-least, built-mark-iff}
 use Rattle.report_spec.specs.Listing.{markedIndices, positionsOf, markLines}
@@ -39,6 +42,10 @@ positions-exactly m P w = (pairwise-keep (λ i j. i < j) test (numbersFrom 1 16)
     up n v =
         in-keep test (in-numbersFrom 1 16 n (v .0) (omega (arith, v .1)))
         (w (n - 1) (omega (arith, v .0, v .1)) .1 (v .2))
+
+-- the empty set has none
+no-positions : positionsOf 0 ≡ []
+no-positions = keep-none (λ n. has 0 (n - 1)) (numbersFrom 1 16) (λ n _. has-none (n - 1))
 
 module _ (set : RuleSet) where
   -- ── Which indices are marked ───────────────────────────────────────────────────────────────────
@@ -81,6 +88,10 @@ module _ (set : RuleSet) where
         lines = refl;
         readsExactly = positions-exactly reads (SequenceReads set own) (reads-iff set formed own numbered);
         writesExactly = positions-exactly writes (SequenceWrites set own) (writes-iff set formed own numbered);
+        denied = λ e. let nothing = denied-untouched set formed own numbered e in (
+          ap (λ (t : Touched). positionsOf (t .reads)) nothing ∙ no-positions,
+          ap (λ (t : Touched). positionsOf (t .writes)) nothing ∙ no-positions,
+        );
       }
 
   module _ (few : set .count ≤ 31) where

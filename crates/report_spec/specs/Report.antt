@@ -13,7 +13,7 @@ use Rattle.model_spec.specs.Limits.{placeCount}
 use Rattle.model_spec.specs.declared.RuleSet.{RuleSet}
 use Rattle.files_spec.specs.Text.{numeral, line}
 use Rattle.files_spec.specs.Reading.{reading, ReadAs}
-use Rattle.macros_spec.specs.Answers.{SequenceReads, SequenceWrites}
+use Rattle.macros_spec.specs.Answers.{SequenceReads, SequenceWrites, Denied}
 use Rattle.tables_spec.specs.Table.{tableEntries, sequenceAt, builtEntry, Prunable, LeastWitness}
 use Rattle.report_spec.specs.Listing.{listedReach, markedIndices, sequenceItems, markLines, listingOf, listing}
 
@@ -35,7 +35,8 @@ ExactlyThose P positions =
     Pairwise (λ m n. m < n) positions
     × ((n : ℕ) → (n ∈ positions) ↔ ((1 ≤ n) × (n ≤ placeCount) × P (n - 1)))
 
--- the lines of a mark: the sequence, its witness, and the positions that the sequence reads and writes
+-- the lines of a mark: the sequence, its witness, and the positions that the sequence reads and writes, none for one
+-- that no state admits
 pub record MarkMeaning (set : RuleSet) (i : ℕ) : Type 0 where
   pub reads : List ℕ
   pub writes : List ℕ
@@ -46,6 +47,7 @@ pub record MarkMeaning (set : RuleSet) (i : ℕ) : Type 0 where
       ++ line "moves=" (map numeral writes)
   pub readsExactly : ExactlyThose (SequenceReads set (sequenceAt set listedReach i)) reads
   pub writesExactly : ExactlyThose (SequenceWrites set (sequenceAt set listedReach i)) writes
+  pub denied : Denied set (sequenceAt set listedReach i) → (reads ≡ []) × (writes ≡ [])
 
 -- what a report tells and leaves. A refused text is listed by its number alone. Of a text that is read, the sequences
 -- listed are exactly the prunable ones (document 01: needless), in order, and each with the smallest index that will do

@@ -25,8 +25,8 @@ use Rattle.tables_spec.proofs.TableLaws.{index-sequence}
 use Rattle.tables_laws.specs.how.ShortSequences.{shortSequence}
 use Rattle.tables_laws.proofs.SequenceLoopLaws.{near-at}
 
-module _ (set : RuleSet) (valid : WellFormed set) (reach : ℕ) (near : reach ≤ 3) (i : ℕ) (h : i < tableEntries set reach)
-    (vectors : Vectors) (v : vectors ≡ asVectors (composed set (shortSequence (set .count) i))) where
+module _ (set : RuleSet) (valid : WellFormed set) (reach : ℕ) (near : reach ≤ 3)
+    (i : ℕ) (h : i < tableEntries set reach) (vectors : Vectors) (v : vectors ≡ asVectors (composed set (shortSequence (set .count) i))) where
   -- the vectors of an index are those of its sequence
   own-lines : linesOf vectors ≡ composed set (sequenceAt set reach i)
   own-lines =
@@ -52,8 +52,8 @@ module _ (set : RuleSet) (valid : WellFormed set) (reach : ℕ) (near : reach �
         (c ∙ ap (sequenceCost set) (near-at set valid reach near i h))
         ∙ ap (redundantByLines set (composed set (sequenceAt set reach i)) (sequenceCost set (sequenceAt set reach i)))
         (near-at set valid reach near entry k)
-        ∙ redundant-by-lines set valid (sequenceAt set reach i) (sequenceAt set reach entry) (index-sequence set reach i h .1)
-        (index-sequence set reach entry k .1)
+        ∙ redundant-by-lines set valid (sequenceAt set reach i) (sequenceAt set reach entry)
+        (index-sequence set reach i h .1) (index-sequence set reach entry k .1)
         ∙ ap (λ n. redundant set (sequenceAt set reach i) (sequenceAt set reach n)) e
         ∙ sym (rw (ne-eqb (entryAt table i) kept (λ k. marked (e ∙ k)), lt-ltb (entryAt table i) i (omega arith)))
 

@@ -4,13 +4,13 @@ use mathlib.Core.Path.{_≡_, refl, sym, ap, ap₂, _∙_, subst}
 use mathlib.Core.Logic.{_⊎_, inl, inr}
 use mathlib.Core.Bool.{Bool, true, false, _&&_, _||_, cond, true≢false, false≢true}
 use mathlib.Core.Bool.{or-true, or-false, and-false}
-use Prim.Native.Nat.{ℕ, zero, suc, _+_, _*_, _/_, _%_, _^_, _≤_, _<_}
+use Prim.Native.Nat.{ℕ, zero, suc, _+_, _*_, _/_, _%_, _^_, _<_}
 use native.Mathlib.Nat.{pow-suc, div-div-eq-div-mul, div-one, mod-lt, zero-lt-suc, div-lt-iff-lt-mul, zero-div}
-use native.Mathlib.Nat.{div-eq-of-lt, lt-of-lt-of-le, mul-mod-left, mul-div-mul-right, mul-comm, one-mul, mod-eq-of-lt}
+use native.Mathlib.Nat.{div-eq-of-lt, mul-mod-left, mul-div-mul-right, mul-comm, one-mul, mod-eq-of-lt}
 use native.Mathlib.Nat.{add-comm, add-zero}
 use native.Mathlib.Numerals.{add-one}
 use native.Mathlib.Omega.{arith}
-use lib.Pow.{pow-mono, pow-lt}
+use lib.Pow.{pow-lt}
 use lib.Dec.{eqb, ltb, eqb·suc-suc, eqb·suc-zero, eqb·zero-suc}
 use lib.Arith.{lt-of-le-ne}
 use lib.Bits.{bitAnd, bitOr, and-shr, and-mod, or-shr, or-mod, or-shifted-r}
@@ -20,11 +20,7 @@ use Rattle.theory_spec.proofs.ListLaws.{passes?, same-test, and-join}
 
 -- ── Digits ───────────────────────────────────────────────────────────────────────────────────────
 
--- the digit above: dividing once more
-shift-suc : (m k : ℕ) → m / 2 ^ suc k ≡ m / 2 ^ k / 2
-shift-suc m k = ap (λ x. m / x) (pow-suc 2 k) ∙ sym (div-div-eq-div-mul m (2 ^ k) 2)
-
--- and halving first
+-- the digit above: halving first
 lower : (m k : ℕ) → m / 2 ^ suc k ≡ m / 2 / 2 ^ k
 lower m k = ap (λ x. m / x) (pow-suc 2 k ∙ mul-comm (2 ^ k) 2) ∙ sym (div-div-eq-div-mul m 2 (2 ^ k))
 
@@ -76,14 +72,10 @@ has-or a b k =
     ap (λ x. eqb x 1) (digit-or a b k)
     ∙ or-bits (a / 2 ^ k % 2) (b / 2 ^ k % 2) (bit? (a / 2 ^ k)) (bit? (b / 2 ^ k))
 
--- the empty set has no member, and no set below 2 ^ n one from n on
+-- the empty set has no member
 pub has-none : (k : ℕ) → has 0 k ≡ false
 unfolding has
 has-none k = rw zero-div refl
-
-pub has-below : (n m k : ℕ) → m < 2 ^ n → n ≤ k → has m k ≡ false
-unfolding has
-has-below n m k h l = rw (div-eq-of-lt (lt-of-lt-of-le h (pow-mono l))) refl
 
 -- the set of one number
 pub has-own : (k j : ℕ) → has (2 ^ k) j ≡ eqb j k
@@ -139,9 +131,6 @@ module _ (p : ℕ → Bool) (m k : ℕ) (so-far : (j : ℕ) → has m j ≡ (ltb
 
   at-once : ltb k (k + 1) ≡ true
   at-once = lt-ltb k (k + 1) (omega arith)
-
-  not-yet : ltb k k ≡ false
-  not-yet = le-ltb k k (omega arith)
 
   pub filled-with : p k ≡ true → (j : ℕ) → has (bitOr m (2 ^ k)) j ≡ (ltb j (k + 1) && p j)
   filled-with h j = has-with m k j ∙ go (passes? (eqb j k))

@@ -46,7 +46,7 @@ pub fn wide_positions(set: RuleSet) -> u16
 }
 
 // The position that an entry names, as a set, if the entry stands at another place; else none. A function of its own,
-// so that the loop over a line has no branch: the check of a table asks this 32 times for each mark.
+// so that the loop over a line is compiled without branches: the check of a table runs it twice for a mark.
 fn named_by(entry: u8, place: usize) -> u16
     ensures { λ r. ⌜
         (r < 2 ^ placeCount)

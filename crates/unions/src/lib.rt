@@ -35,7 +35,7 @@ fn are_full(sets: Touched, wide: u16) -> bool
 }
 
 // Both unions with the entry of one sequence more, of which these are the vectors: as they were where it is kept. Full
-// unions are left at once: most tables come to that after some marks, and the check of a table calls this for each.
+// unions are left at once: the check of a table calls this for each entry.
 pub fn with_mark(before: Touched, wide: u16, entry: usize, vectors: Vectors) -> Touched
     ensures { λ r. ⌜
         (let own = touchedWithin wide (linesOf vectors) in

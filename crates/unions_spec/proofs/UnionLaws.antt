@@ -5,7 +5,7 @@ use mathlib.Core.Logic.{_↔_, _≢_, ⊎-elim}
 use mathlib.Core.Bool.{Bool, true, false, not, cond, _&&_, _||_, or-false}
 use mathlib.Core.Option.{Option, some, none}
 use mathlib.Core.List.{List, [], _∷_, _++_, map}
-use Prim.Native.Nat.{ℕ, zero, suc, _+_, _^_, _<_}
+use Prim.Native.Nat.{ℕ, zero, suc, _+_, _<_}
 use native.Mathlib.Nat.{zero-add, add-zero}
 use native.Mathlib.Numerals.{add-one}
 use native.Mathlib.Omega.{arith}
@@ -18,18 +18,18 @@ use Rattle.theory_spec.specs.Sequences.{Sequence, Numbered}
 use Rattle.theory_spec.proofs.ListLaws.{any-append}
 use Rattle.theory_spec.proofs.TestLaws.{equal?, eqb-iff, not-iff, and-iff, any-below-iff}
 use Rattle.theory_spec.proofs.SetLaws.{has-none, has-or, has-setOf, setOf-below, sets-equal}
-use Rattle.model_spec.specs.Validity.{WellFormed, Valid}
+use Rattle.model_spec.specs.Validity.{WellFormed}
 use Rattle.model_spec.specs.declared.RuleSet.{RuleSet}
 use Rattle.macros_spec.specs.Composition.{Lines}
 use Rattle.macros_spec.specs.Touched.{untouched, readAt, writtenAt}
 use Rattle.macros_spec.specs.how.Touching.{touchedWithin}
-use Rattle.macros_spec.specs.Answers.{touchedIn, SequenceReads, SequenceWrites}
+use Rattle.macros_spec.specs.Answers.{touchedIn}
 use Rattle.macros_spec.specs.declared.Touched.{Touched}
 use Rattle.macros_spec.proofs.SequenceTouchLaws.{reads-iff, writes-iff, touched-bound}
 use Rattle.tables_spec.specs.Table.{tableEntries, sequenceAt, kept, entryAt, builtTable, Marked}
 use Rattle.tables_spec.specs.Answers.{buildOutcome, builtBuffer, checkOutcome}
 use Rattle.tables_spec.proofs.TableLaws.{index-sequence}
-use Rattle.tables_spec.proofs.AnswerLaws.{build-meaning, check-meaning, built-whole, build-ready-iff}
+use Rattle.tables_spec.proofs.AnswerLaws.{check-meaning, built-whole, build-ready-iff}
 use Rattle.unions_spec.specs.Unions.{markedSequences, unionOf, tableTouched, answerWith, buildAnswer, checkAnswer}
 use Rattle.unions_spec.specs.Unions.{UnionMeaning}
 use Rattle.unions_spec.specs.how.United.{united, unitedTo}
@@ -262,7 +262,8 @@ united-full wide h (some m) before r w =
         sets-equal 16 (bitOr m some-wide) m (or-lt 16 m some-wide (rw e h) (setOf-below (λ i. has wide i && p i) 16))
         (rw e h)
         (λ k l. has-or m some-wide k
-        ∙ ap (λ b. has m k || b) (has-setOf (λ i. has wide i && p i) 16 k ∙ ap (λ b. b && (has wide k && p k)) (lt-ltb k 16 l)
+        ∙ ap (λ b. has m k || b)
+        (has-setOf (λ i. has wide i && p i) 16 k ∙ ap (λ b. b && (has wide k && p k)) (lt-ltb k 16 l)
         ∙ ap (λ n. has n k && p k) (sym e))
         ∙ absorbed (has m k) (p k))
 

@@ -29,7 +29,8 @@ abbrev marks : RuleSet → ℕ → ℕ → Bool
 marks set reach k = not (eqb (builtEntry set reach k) kept)
 
 -- with one entry more
-next : (set : RuleSet) (reach i entry : ℕ) (before own after : Touched) → before ≡ unitedTo set reach (marks set reach) i
+next : (set : RuleSet) (reach i entry : ℕ) (before own after : Touched)
+    → before ≡ unitedTo set reach (marks set reach) i
     → entry ≡ builtEntry set reach i → own ≡ touchedIn set (sequenceAt set reach i)
     → after ≡ cond (not (eqb entry kept)) (united before own) before
     → after ≡ unitedTo set reach (marks set reach) (i + 1)

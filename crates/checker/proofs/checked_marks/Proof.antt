@@ -52,7 +52,8 @@ module _ (more : Touched) (answer : TableAnswer) where
 abbrev with-one : RuleSet → List ℕ → ℕ → Touched → Touched
 with-one set table i before = cond (marks table i) (united before (touchedIn set (sequenceAt set 3 i))) before
 
-next : (set : RuleSet) → WellFormed set → (reach : ℕ) → reach ≤ 3 → (table : List ℕ) (i : ℕ) → i < tableEntries set reach
+next : (set : RuleSet) → WellFormed set → (reach : ℕ) → reach ≤ 3 → (table : List ℕ) (i : ℕ)
+    → i < tableEntries set reach
     → (before : Touched) → before ≡ unitedTo set reach (marks table) i
     → (after : Touched) → after ≡ with-one set table i before
     → after ≡ unitedTo set reach (marks table) (i + 1)
@@ -127,7 +128,8 @@ returns c =
     let s = startOf head in
     let a = s .args in
     let h : l .i < tableEntries (a .set) (a .reach) = omega arith in
-    let w = stopped (with-one (a .set) (a .table .now) (l .i) (l .touched)) _ _ (entry .with-entry .ensures) (c .if1 .taken) in
+    let w = stopped (with-one (a .set) (a .table .now) (l .i) (l .touched)) _ _ (entry .with-entry .ensures)
+    (c .if1 .taken) in
     turned-down (a .set) (a .reach) (a .table .now)
     (every-stop (entryJustified (a .set) (a .reach) (a .table .now)) (l .i) (tableEntries (a .set) (a .reach)) _
     (l .inv .0) h (sym (near-justified (a .set) (a .reach) (s .pre .1) (a .table .now) (l .i) h) ∙ w .0))
@@ -147,7 +149,8 @@ loop-again c =
     let s = startOf head in
     let a = s .args in
     let h : l .i < tableEntries (a .set) (a .reach) = omega arith in
-    let w = went-on (with-one (a .set) (a .table .now) (l .i) (l .touched)) _ _ (entry .with-entry .ensures) (c .before .if1 .left) in (
+    let w = went-on (with-one (a .set) (a .table .now) (l .i) (l .touched)) _ _ (entry .with-entry .ensures)
+    (c .before .if1 .left) in (
       every-go (entryJustified (a .set) (a .reach) (a .table .now)) (l .i) (tableEntries (a .set) (a .reach)) _
           (l .inv .0) h
           (sym (near-justified (a .set) (a .reach) (s .pre .1) (a .table .now) (l .i) h) ∙ w .0),

@@ -129,7 +129,8 @@ returns-4 c =
     let s = start .args in
     let known = sym (numbered .before .has-unknown-move .ensures) ∙ numbered .if2 .left in
     let bound = cost-small (s .set) (s .moves .now) (start .pre) (few .if1 .left) known in
-    let cost : costed .cost-of .result ≡ sequenceCost (s .set) (s .moves .now) = omega (arith, costed .cost-of .ensures) in
+    let cost : costed .cost-of .result ≡ sequenceCost (s .set) (s .moves .now) =
+    omega (arith, costed .cost-of .ensures) in
     let found = not-false _ (admitted .if3 .left) in
     let sets = sets-given (s .set) (made .composed .result) found _ _
     (c .before .wide-positions .ensures) (c .touched .ensures) in

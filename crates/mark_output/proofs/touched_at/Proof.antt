@@ -11,14 +11,14 @@ use Rattle.macros_spec.specs.declared.Vectors.{Vectors}
 use Rattle.macros_spec.proofs.ExtensionLaws.{lines-vectors}
 use Rattle.macros_spec.proofs.TouchedLaws.{touched-within}
 use Rattle.tables_laws.specs.how.ShortSequences.{shortSequence}
-use Rattle.report_laws.specs.how.Marks.{touchedAt}
+use Rattle.report_laws.specs.how.Marks.{indexTouched}
 use Rattle.mark_output.proofs.touched_at.Statement.{statement}
 use Rattle.mark_output.proofs.touched_at.Tie as tie
 
 -- from the positions with two values or more, and the sequence's vectors
 sets-of : (set : RuleSet) (i wide : ℕ) (v : Vectors) → wide ≡ widePositions set
-    → v ≡ asVectors (composed set (shortSequence (set .count) i)) → touchedWithin wide (linesOf v) ≡ touchedAt set i
-unfolding touchedAt touchedIn
+    → v ≡ asVectors (composed set (shortSequence (set .count) i)) → touchedWithin wide (linesOf v) ≡ indexTouched set i
+unfolding indexTouched touchedIn
 sets-of set i wide v e f =
     let m = composed set (shortSequence (set .count) i) in
     ap₂ touchedWithin e (ap linesOf f ∙ lines-vectors m) ∙ touched-within set m

@@ -84,7 +84,8 @@ same-length c = search needs
 returns : tie.Need-returns Inv-loop μ-loop
 returns c =
     let listed = c .before .before in
-    let worded = listed .before .before .before .before .before in
+    let lent = listed .before .before .before in
+    let worded = lent .before .before in
     let left = worded .before .before in
     let l = left .before .loop in
     let s = startOf (left .before) .args in

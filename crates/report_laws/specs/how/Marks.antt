@@ -29,16 +29,16 @@ unfoldable pub sequenceText : ℕ → ℕ → List ℕ
 sequenceText m i = commaList (map numeral (sequenceOf (max m 1) 2 i))
 
 -- the positions that the sequence of an index reads and writes
-unfoldable pub touchedAt : RuleSet → ℕ → Touched
-touchedAt set i = touchedIn set (shortSequence (set .count) i)
+unfoldable pub indexTouched : RuleSet → ℕ → Touched
+indexTouched set i = touchedIn set (shortSequence (set .count) i)
 
 -- the lines of a mark: the sequence and its witness, by their indices, and what the sequence reads and writes
 unfoldable pub markText : RuleSet → ℕ → ℕ → List ℕ
 markText set i witness =
     bytes "drop=" ++ sequenceText (set .count) i ++ (lineFeed ∷ [])
     ++ (bytes "for=" ++ sequenceText (set .count) witness ++ (lineFeed ∷ []))
-    ++ line "reads=" (positionItems (touchedAt set i .reads))
-    ++ line "moves=" (positionItems (touchedAt set i .writes))
+    ++ line "reads=" (positionItems (indexTouched set i .reads))
+    ++ line "moves=" (positionItems (indexTouched set i .writes))
 
 -- the lines of an index, by its entry: none where its sequence is kept
 unfoldable pub entryLines : RuleSet → ℕ → ℕ → List ℕ

@@ -28,7 +28,8 @@ returns-2 c =
     let asked = c .before .before .before in
     let last = asked .before .before in
     let first = last .before .before in
-    let admitted = first .before .before .before .before in
+    let vectors = first .before .before in
+    let admitted = vectors .before .before in
     let start = admitted .before .before in
     touched-parts _ (start .args .vectors) (not-false _ (admitted .if1 .left)) _ _ _
     (asked .asked .ensures)
