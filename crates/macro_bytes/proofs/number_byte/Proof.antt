@@ -1,12 +1,12 @@
--- `text_macros::number_byte` meets its contract, by the tests on the way.
+-- `macro_bytes::number_byte` meets its contract, by the tests on the way.
 -- Assumes nothing.
 use mathlib.Core.Path.{sym, ap}
 use native.Mathlib.Omega.{arith}
 use lib.ListN.{getD, List·getD-eq-default}
 use borrow.Author.Needs.{needs}
 use Rattle.tables_spec.specs.Table.{entryBytes}
-use Rattle.text_macros.proofs.number_byte.Statement.{statement}
-use Rattle.text_macros.proofs.number_byte.Tie as tie
+use Rattle.macro_bytes.proofs.number_byte.Statement.{statement}
+use Rattle.macro_bytes.proofs.number_byte.Tie as tie
 
 cast-result : tie.Need-cast-result
 cast-result c = search needs

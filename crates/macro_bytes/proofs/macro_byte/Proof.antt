@@ -1,4 +1,4 @@
--- `text_macros::macro_byte` meets its contract: each way out gives the byte that stands at that place.
+-- `macro_bytes::macro_byte` meets its contract: each way out gives the byte that stands at that place.
 -- Assumes nothing.
 use mathlib.Core.Path.{_≡_, sym, _∙_}
 use native.Mathlib.Omega.{arith}
@@ -6,8 +6,8 @@ use lib.ListN.{length}
 use borrow.Author.Needs.{needs}
 use Rattle.planner_spec.proofs.MacroBytesLaws.{byte-condition, byte-effect, byte-cost, byte-reads, byte-writes}
 use Rattle.planner_spec.proofs.MacroShape.{condition-16, effect-16}
-use Rattle.text_macros.proofs.macro_byte.Statement.{statement}
-use Rattle.text_macros.proofs.macro_byte.Tie as tie
+use Rattle.macro_bytes.proofs.macro_byte.Statement.{statement}
+use Rattle.macro_bytes.proofs.macro_byte.Tie as tie
 
 abbrev startOf : tie.After-effect → tie.Start
 startOf c = c .before .before
