@@ -18,12 +18,11 @@ ghost use lib.Dec.{eqb};
 ghost use lib.ListN.{length};
 ghost use Rattle.model_spec.specs.Refusals.{firstRefusal};
 ghost use Rattle.model_spec.specs.Validity.{WellFormed};
-ghost use Rattle.macros_spec.specs.Touched.{untouched};
 ghost use Rattle.macros_spec.specs.Answers.{touchedIn};
 ghost use Rattle.macros_spec.specs.how.Touching.{widePositions};
 ghost use Rattle.tables_spec.specs.Table.{tableEntries, sequenceAt, kept, entryAt, entryJustified, accepted};
 ghost use Rattle.tables_spec.specs.Answers.{markCauses, CheckMeaning};
-ghost use Rattle.unions_spec.specs.Unions.{tableTouched, answerWith, checkAnswer, UnionMeaning};
+ghost use Rattle.unions_spec.specs.Unions.{tableTouched, refusedTable, answerWith, checkAnswer, UnionMeaning};
 ghost use Rattle.unions_spec.specs.how.United.{united};
 
 // Both unions with the entry of an index; 14 if the entry neither keeps its sequence nor names a smaller index with
@@ -39,7 +38,7 @@ fn with_entry(set: RuleSet, wide: u16, before: Touched, table: &[u8], i: usize) 
         let more = cond (not (eqb (entryAt entries i) kept)) (united before own) before in
         r ≡ cond (entryJustified set 3 entries i)
         (record { outcome = 0; touched = more })
-        (record { outcome = 14; touched = untouched })) ⌝ }
+        (refusedTable 14)) ⌝ }
 {
     let entry = entry_at(table, i);
     if entry == KEPT {
@@ -77,7 +76,7 @@ fn checked_marks(set: RuleSet, reach: usize, table: &[u8]) -> TableAnswer
         (let entries = now (table .entry) in
         r ≡ cond (accepted set reach entries)
         (record { outcome = 0; touched = tableTouched set reach entries })
-        (record { outcome = 14; touched = untouched })) ⌝ }
+        (refusedTable 14)) ⌝ }
 {
     let wide = wide_positions(set);
     let count = table.len() / 2;

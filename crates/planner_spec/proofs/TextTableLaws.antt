@@ -18,13 +18,13 @@ use Rattle.tables_spec.specs.Answers.{sizeCauses, tableSize, tableCauses, build
 use Rattle.tables_spec.specs.Answers.{checkCauses, checkOutcome}
 use Rattle.tables_spec.proofs.AnswerLaws.{built-whole, built-checks, build-meaning, check-meaning}
 use Rattle.tables_spec.proofs.SizeLaws.{size-meaning, size-builds-iff}
-use Rattle.unions_spec.specs.Unions.{answerWith, buildAnswer, checkAnswer, UnionMeaning}
+use Rattle.unions_spec.specs.Unions.{refusedTable, answerWith, buildAnswer, checkAnswer, UnionMeaning}
 use Rattle.unions_spec.specs.declared.TableAnswer.{TableAnswer}
 use Rattle.unions_spec.proofs.UnionLaws.{build-unions, check-unions}
 use Rattle.planner_spec.specs.PackedLength.{packedLength}
 use Rattle.planner_spec.specs.how.LengthLimit.{lengthLimit}
 use Rattle.planner_spec.specs.PackedTable.{packedTable, unpackedTable}
-use Rattle.planner_spec.specs.TextTables.{textTableSize, packedTableSize, refusedTable, textBuildAnswer}
+use Rattle.planner_spec.specs.TextTables.{textTableSize, packedTableSize, textBuildAnswer}
 use Rattle.planner_spec.specs.TextTables.{textBuiltBuffer, textCheckAnswer}
 use Rattle.planner_spec.specs.TextTables.{TextSizeMeaning, TextBuildMeaning, TextCheckMeaning}
 use Rattle.planner_spec.proofs.OfTextLaws.{of-read, of-refused, Own, own-refusal, not-7, text-judged}

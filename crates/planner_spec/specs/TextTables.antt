@@ -8,8 +8,7 @@ use Rattle.files_spec.specs.Reading.{reading}
 use Rattle.tables_spec.specs.declared.TableSize.{TableSize}
 use Rattle.tables_spec.specs.Answers.{tableSize, builtBuffer}
 use Rattle.tables_spec.specs.Answers.{SizeMeaning, BuildMeaning, CheckMeaning}
-use Rattle.macros_spec.specs.Touched.{untouched}
-use Rattle.unions_spec.specs.Unions.{buildAnswer, checkAnswer, UnionMeaning}
+use Rattle.unions_spec.specs.Unions.{refusedTable, buildAnswer, checkAnswer, UnionMeaning}
 use Rattle.unions_spec.specs.declared.TableAnswer.{TableAnswer}
 use Rattle.planner_spec.specs.PackedLength.{packedLength}
 use Rattle.planner_spec.specs.OfText.{ofText, TextJudged}
@@ -22,11 +21,7 @@ textTableSize text reach = ofText text (λ set. tableSize set reach) (λ n. reco
 unfoldable pub packedTableSize : List ℕ → ℕ → ℕ
 packedTableSize text reach = packedLength (textTableSize text reach .outcome) (textTableSize text reach .length)
 
--- a refused text's answer: its number, and no positions
-abbrev pub refusedTable : ℕ → TableAnswer
-refusedTable outcome = record { outcome = outcome; touched = untouched }
-
--- the builder's answer for a table of `size` bytes
+-- the builder's answer for a table of `size` bytes; a refused text's number, and no positions
 unfoldable pub textBuildAnswer : List ℕ → ℕ → ℕ → TableAnswer
 textBuildAnswer text reach size = ofText text (λ set. buildAnswer set reach size) refusedTable
 

@@ -31,7 +31,7 @@ use Rattle.tables_spec.specs.Answers.{buildOutcome, builtBuffer, checkOutcome}
 use Rattle.tables_spec.proofs.TableLaws.{index-sequence}
 use Rattle.tables_spec.proofs.AnswerLaws.{check-meaning, built-whole, build-ready-iff}
 use Rattle.unions_spec.specs.Unions.{markedSequences, unionOf, tableTouched, answerWith, buildAnswer, checkAnswer}
-use Rattle.unions_spec.specs.Unions.{UnionMeaning}
+use Rattle.unions_spec.specs.Unions.{refusedTable, UnionMeaning}
 use Rattle.unions_spec.specs.how.United.{united, unitedTo}
 use Rattle.unions_spec.specs.declared.TableAnswer.{TableAnswer}
 
@@ -114,7 +114,7 @@ module _ (set : RuleSet) (reach : ℕ) (table : List ℕ) (outcome : ℕ) (forme
   }
 
   -- nothing where it is refused
-  silent : outcome ≢ 0 → UnionMeaning set reach table (record { outcome = outcome; touched = untouched })
+  silent : outcome ≢ 0 → UnionMeaning set reach table (refusedTable outcome)
   silent n = record {
     reads = λ z. absurd (n z);
     writes = λ z. absurd (n z);
@@ -130,7 +130,7 @@ module _ (set : RuleSet) (reach : ℕ) (table : List ℕ) (outcome : ℕ) (forme
 
 -- an answer that was given, with this outcome: a refusal, and with both unions
 module _ (set : RuleSet) (reach : ℕ) (table : List ℕ) (given outcome : ℕ) (e : given ≡ outcome) where
-  pub answer-refused : outcome ≢ 0 → (answer : TableAnswer) → answer ≡ (record { outcome = given; touched = untouched })
+  pub answer-refused : outcome ≢ 0 → (answer : TableAnswer) → answer ≡ refusedTable given
       → answer ≡ answerWith set reach table outcome
   answer-refused n answer a =
       a ∙ rw e (sym (rw (ne-eqb outcome 0 n)))

@@ -36,6 +36,10 @@ tableTouched set reach table = record {
   writes = unionOf (λ t. t .writes) set reach table;
 }
 
+-- a refusal: no positions
+abbrev pub refusedTable : ℕ → TableAnswer
+refusedTable outcome = record { outcome = outcome; touched = untouched }
+
 -- the answer with an outcome: both unions, which are empty when refused
 abbrev pub answerWith : RuleSet → ℕ → List ℕ → ℕ → TableAnswer
 answerWith set reach table outcome = record {

@@ -16,11 +16,10 @@ use Rattle.model_spec.specs.declared.RuleSet.{RuleSet}
 use Rattle.model_spec.proofs.BufferLaws.{filled-whole}
 use Rattle.model_spec.proofs.LoopLaws.{failed, passed}
 use Rattle.model_spec.proofs.ValidityLaws.{valid-iff}
-use Rattle.macros_spec.specs.Touched.{untouched}
 use Rattle.tables_spec.specs.Table.{builtTable}
 use Rattle.tables_spec.specs.Answers.{shapeCauses, buildOutcome, builtBuffer, BuildMeaning}
 use Rattle.tables_spec.proofs.AnswerLaws.{build-judged, built-refused, build-meaning}
-use Rattle.unions_spec.specs.Unions.{answerWith, buildAnswer, UnionMeaning}
+use Rattle.unions_spec.specs.Unions.{refusedTable, answerWith, buildAnswer, UnionMeaning}
 use Rattle.unions_spec.specs.declared.TableAnswer.{TableAnswer}
 use Rattle.unions_spec.proofs.UnionLaws.{answer-refused, build-unions}
 use Rattle.builder.proofs.build_table.Statement.{statement}
@@ -35,7 +34,7 @@ module _ (set : RuleSet) (reach size : ℕ) where
 
   -- a refusal gives what the definition has
   build-refused : (given : ℕ) → given ≡ buildOutcome set reach size → buildOutcome set reach size ≢ 0
-      → (r : TableAnswer) → r ≡ (record { outcome = given; touched = untouched }) → r ≡ buildAnswer set reach size
+      → (r : TableAnswer) → r ≡ refusedTable given → r ≡ buildAnswer set reach size
   unfolding buildAnswer
   build-refused given e n r a =
       answer-refused set reach (builtTable set reach) given (buildOutcome set reach size) e n r a

@@ -9,11 +9,10 @@ use lib.ListN.{length}
 use borrow.Author.Needs.{needs}
 use Rattle.model_spec.specs.Refusals.{firstRefusal}
 use Rattle.model_spec.specs.declared.RuleSet.{RuleSet}
-use Rattle.macros_spec.specs.Touched.{untouched}
 use Rattle.tables_spec.specs.Table.{accepted}
 use Rattle.tables_spec.specs.Answers.{shapeCauses, markCauses}
 use Rattle.tables_spec.proofs.AnswerLaws.{shape-ready-iff, marks-refused, marks-decide}
-use Rattle.unions_spec.specs.Unions.{tableTouched, answerWith}
+use Rattle.unions_spec.specs.Unions.{tableTouched, refusedTable, answerWith}
 use Rattle.unions_spec.specs.declared.TableAnswer.{TableAnswer}
 use Rattle.unions_spec.proofs.UnionLaws.{answer-refused}
 use Rattle.checker.proofs.check_for.Statement.{statement}
@@ -22,7 +21,7 @@ use Rattle.checker.proofs.check_for.Tie as tie
 module _ (set : RuleSet) (reach : ℕ) (table : List ℕ) where
   -- a table of another shape
   misfit : (given : ℕ) → given ≡ firstRefusal (shapeCauses set reach (length table)) → given ≢ 0 → (r : TableAnswer)
-      → r ≡ (record { outcome = given; touched = untouched })
+      → r ≡ refusedTable given
       → r ≡ answerWith set reach table (firstRefusal (markCauses set reach table))
   misfit given e n r a =
       let same = e ∙ sym (marks-refused set reach table (λ z. n (e ∙ z))) in
@@ -31,13 +30,13 @@ module _ (set : RuleSet) (reach : ℕ) (table : List ℕ) where
   -- else the marks decide
   decided : firstRefusal (shapeCauses set reach (length table)) ≡ 0 → (r : TableAnswer)
       → r ≡ cond (accepted set reach table) (record { outcome = 0; touched = tableTouched set reach table })
-      (record { outcome = 14; touched = untouched })
+      (refusedTable 14)
       → r ≡ answerWith set reach table (firstRefusal (markCauses set reach table))
   decided z r e =
       e ∙ go (accepted set reach table) ∙ ap (answerWith set reach table) (sym (marks-decide set reach table z _ refl))
     where
       go : (b : Bool) → cond b (record { outcome = 0; touched = tableTouched set reach table })
-          (record { outcome = 14; touched = untouched })
+          (refusedTable 14)
           ≡ answerWith set reach table (cond b 0 14)
       go true = refl
       go false = refl

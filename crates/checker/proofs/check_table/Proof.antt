@@ -12,10 +12,9 @@ use Rattle.model_spec.specs.Validity.{valid, Valid}
 use Rattle.model_spec.specs.declared.RuleSet.{RuleSet}
 use Rattle.model_spec.proofs.LoopLaws.{failed, passed}
 use Rattle.model_spec.proofs.ValidityLaws.{valid-iff}
-use Rattle.macros_spec.specs.Touched.{untouched}
 use Rattle.tables_spec.specs.Answers.{markCauses, CheckMeaning}
 use Rattle.tables_spec.proofs.AnswerLaws.{check-judged, check-meaning}
-use Rattle.unions_spec.specs.Unions.{answerWith, checkAnswer, UnionMeaning}
+use Rattle.unions_spec.specs.Unions.{refusedTable, answerWith, checkAnswer, UnionMeaning}
 use Rattle.unions_spec.specs.declared.TableAnswer.{TableAnswer}
 use Rattle.unions_spec.proofs.UnionLaws.{answer-refused, check-unions}
 use Rattle.checker.proofs.check_table.Statement.{statement}
@@ -29,7 +28,7 @@ module _ (set : RuleSet) (reach : ℕ) (table : List ℕ) where
   checked-meaning = check-meaning set reach table
 
   -- of a set that is not valid
-  invalid-answer : (Valid set → ⊥) → (r : TableAnswer) → r ≡ (record { outcome = 7; touched = untouched })
+  invalid-answer : (Valid set → ⊥) → (r : TableAnswer) → r ≡ refusedTable 7
       → r ≡ checkAnswer set reach table
   unfolding checkAnswer
   invalid-answer n r a =

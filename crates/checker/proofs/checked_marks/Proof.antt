@@ -13,14 +13,13 @@ use Rattle.theory_spec.specs.Lists.{every, numbersFrom}
 use Rattle.model_spec.specs.Validity.{WellFormed}
 use Rattle.model_spec.specs.declared.RuleSet.{RuleSet}
 use Rattle.model_spec.proofs.LoopLaws.{every-go, every-stop, every-end}
-use Rattle.macros_spec.specs.Touched.{untouched}
 use Rattle.macros_spec.specs.Answers.{touchedIn}
 use Rattle.macros_spec.specs.declared.Touched.{Touched}
 use Rattle.tables_spec.specs.Table.{tableEntries, sequenceAt, kept, entryAt, entryJustified, accepted}
 use Rattle.tables_spec.proofs.ReachLaws.{near-entries, near-justified}
 use Rattle.tables_spec.proofs.TableLaws.{accepted-entries}
 use Rattle.tables_laws.proofs.SequenceLoopLaws.{near-at, short-at}
-use Rattle.unions_spec.specs.Unions.{tableTouched}
+use Rattle.unions_spec.specs.Unions.{tableTouched, refusedTable}
 use Rattle.unions_spec.specs.how.United.{united, unitedTo}
 use Rattle.unions_spec.specs.declared.TableAnswer.{TableAnswer}
 use Rattle.unions_spec.proofs.UnionLaws.{united-next, united-all}
@@ -36,14 +35,14 @@ marks table k = not (eqb (entryAt table k) kept)
 -- what an answer tells of the test b that it rests on
 module _ (more : Touched) (answer : TableAnswer) where
   stopped : (b : Bool)
-      → answer ≡ cond b (record { outcome = 0; touched = more }) (record { outcome = 14; touched = untouched })
+      → answer ≡ cond b (record { outcome = 0; touched = more }) (refusedTable 14)
       → answer .outcome ≢ 0
-      → (b ≡ false) × (answer ≡ (record { outcome = 14; touched = untouched }))
+      → (b ≡ false) × (answer ≡ refusedTable 14)
   stopped true e n = absurd (n (ap (λ (a : TableAnswer). a .outcome) e))
   stopped false e n = (refl, e)
 
   went-on : (b : Bool)
-      → answer ≡ cond b (record { outcome = 0; touched = more }) (record { outcome = 14; touched = untouched })
+      → answer ≡ cond b (record { outcome = 0; touched = more }) (refusedTable 14)
       → answer .outcome ≡ 0 → (b ≡ true) × (answer .touched ≡ more)
   went-on true e z = (refl, ap (λ (a : TableAnswer). a .touched) e)
   went-on false e z = absurd (omega (arith, z, ap (λ (a : TableAnswer). a .outcome) e))
@@ -76,10 +75,10 @@ module _ (set : RuleSet) (reach : ℕ) (table : List ℕ) where
   abbrev due : TableAnswer
   due =
       cond (accepted set reach table) (record { outcome = 0; touched = tableTouched set reach table })
-      (record { outcome = 14; touched = untouched })
+      (refusedTable 14)
 
   turned-down : false ≡ accepted set reach table → (r : TableAnswer)
-      → r ≡ (record { outcome = 14; touched = untouched }) → r ≡ due
+      → r ≡ refusedTable 14 → r ≡ due
   turned-down f r e = e ∙ rw (sym f)
 
   accepts : true ≡ accepted set reach table → (i : ℕ) → i ≡ tableEntries set reach → (touched : Touched)

@@ -10,10 +10,10 @@ use borrow.Author.Tests.{eq-eqb}
 use borrow.Author.Needs.{needs}
 use Rattle.model_spec.specs.declared.RuleSet.{RuleSet}
 use Rattle.model_spec.proofs.LoopLaws.{failed, passed}
-use Rattle.macros_spec.specs.Touched.{untouched}
 use Rattle.macros_spec.specs.declared.Touched.{Touched}
 use Rattle.tables_spec.specs.Table.{kept, entryAt, entryJustified}
 use Rattle.tables_laws.proofs.MarkLaws.{own-touched, mark-tested, kept-justified}
+use Rattle.unions_spec.specs.Unions.{refusedTable}
 use Rattle.unions_spec.specs.how.United.{united}
 use Rattle.unions_spec.specs.declared.TableAnswer.{TableAnswer}
 use Rattle.checker.proofs.with_entry.Statement.{statement}
@@ -27,7 +27,7 @@ module _ (set : RuleSet) (table : List ℕ) (i entry : ℕ) (e : entry ≡ entry
   due =
       let more = cond (not (eqb (entryAt table i) kept)) (united before own) before in
       cond (entryJustified set 3 table i) (record { outcome = 0; touched = more })
-      (record { outcome = 14; touched = untouched })
+      (refusedTable 14)
 
   -- the sequence is kept
   keeps : entry ≡ kept → _≡_ {A = TableAnswer} (record { outcome = 0; touched = before }) due
@@ -37,7 +37,7 @@ module _ (set : RuleSet) (table : List ℕ) (i entry : ℕ) (e : entry ≡ entry
 
   -- the mark is not justified
   turned-down : entryJustified set 3 table i ≡ false
-      → _≡_ {A = TableAnswer} (record { outcome = 14; touched = untouched }) due
+      → _≡_ {A = TableAnswer} (refusedTable 14) due
   turned-down f = sym (rw f)
 
   -- it is, and is added

@@ -9,9 +9,9 @@ use borrow.Author.Needs.{needs}
 use Rattle.model_spec.proofs.BufferLaws.{filled-whole}
 use Rattle.files_spec.specs.declared.Reading.{Reading}
 use Rattle.tables_spec.specs.Answers.{builtBuffer}
-use Rattle.unions_spec.specs.Unions.{buildAnswer}
+use Rattle.unions_spec.specs.Unions.{refusedTable, buildAnswer}
 use Rattle.unions_spec.specs.declared.TableAnswer.{TableAnswer}
-use Rattle.planner_spec.specs.TextTables.{refusedTable, textBuildAnswer, textBuiltBuffer, TextBuildMeaning}
+use Rattle.planner_spec.specs.TextTables.{textBuildAnswer, textBuiltBuffer, TextBuildMeaning}
 use Rattle.planner_spec.proofs.TextTableLaws.{build-read, build-refused, text-build-meaning}
 use Rattle.text_tables.proofs.build_table.Statement.{statement}
 use Rattle.text_tables.proofs.build_table.Tie as tie

@@ -5,9 +5,9 @@ use mathlib.Core.List.{List}
 use Prim.Native.Nat.{ℕ}
 use borrow.Author.Needs.{needs}
 use Rattle.files_spec.specs.declared.Reading.{Reading}
-use Rattle.unions_spec.specs.Unions.{checkAnswer}
+use Rattle.unions_spec.specs.Unions.{refusedTable, checkAnswer}
 use Rattle.unions_spec.specs.declared.TableAnswer.{TableAnswer}
-use Rattle.planner_spec.specs.TextTables.{refusedTable, textCheckAnswer, TextCheckMeaning}
+use Rattle.planner_spec.specs.TextTables.{textCheckAnswer, TextCheckMeaning}
 use Rattle.planner_spec.proofs.TextTableLaws.{check-read, check-refused, text-check-meaning}
 use Rattle.text_tables.proofs.check_table.Statement.{statement}
 use Rattle.text_tables.proofs.check_table.Tie as tie
