@@ -8,14 +8,14 @@ ghost use mathlib.Core.Path.{_≡_};
 ghost use mathlib.Core.Bool.{not, cond, _&&_};
 ghost use lib.Dec.{eqb};
 ghost use Rattle.macros_spec.specs.Composition.{linesOf};
-ghost use Rattle.macros_spec.specs.Touched.{untouched};
 ghost use Rattle.macros_spec.specs.how.Touching.{touchedWithin};
 ghost use Rattle.tables_spec.specs.Table.{kept};
+ghost use Rattle.unions_spec.specs.Unions.{refusedTable};
 ghost use Rattle.unions_spec.specs.how.United.{united};
 
 // What a refused build or check gives: no positions.
 pub fn refused(outcome: u8) -> TableAnswer
-    ensures { λ r. ⌜ r ≡ (record { outcome = outcome; touched = untouched }) ⌝ }
+    ensures { λ r. ⌜ r ≡ refusedTable outcome ⌝ }
 {
     let touched = Touched {
         reads: 0,
@@ -24,7 +24,7 @@ pub fn refused(outcome: u8) -> TableAnswer
     TableAnswer { outcome, touched }
 }
 
-// Whether both unions have all positions that a mark can add.
+// Whether both unions have all positions that a mark can add: those with two values or more.
 fn are_full(sets: Touched, wide: u16) -> bool
     ensures { λ r. ⌜ r ≡ (eqb (sets .reads) wide && eqb (sets .writes) wide) ⌝ }
 {
@@ -34,8 +34,19 @@ fn are_full(sets: Touched, wide: u16) -> bool
     sets.writes == wide
 }
 
-// Both unions with the entry of one sequence more, of which these are the vectors: as they were where it is kept. Full
-// unions are left at once: the check of a table calls this for each entry.
+// What either touches, read and written apart.
+fn joined(first: Touched, second: Touched) -> Touched
+    ensures { λ r. ⌜ r ≡ united first second ⌝ }
+{
+    Touched {
+        reads: first.reads | second.reads,
+        writes: first.writes | second.writes,
+    }
+}
+
+// Both unions with the entry of one sequence more, of which these are the vectors: as they were where it is kept.
+// `wide` has the positions with two values or more. Full unions are left at once: the builder calls this for each
+// entry, the check for each justified mark.
 pub fn with_mark(before: Touched, wide: u16, entry: usize, vectors: Vectors) -> Touched
     ensures { λ r. ⌜
         (let own = touchedWithin wide (linesOf vectors) in
@@ -48,8 +59,5 @@ pub fn with_mark(before: Touched, wide: u16, entry: usize, vectors: Vectors) -> 
         return before;
     }
     let own = touched(wide, vectors);
-    Touched {
-        reads: before.reads | own.reads,
-        writes: before.writes | own.writes,
-    }
+    joined(before, own)
 }

@@ -7,7 +7,6 @@ use mathlib.Core.Option.{Option}
 use Prim.Native.Nat.{ℕ, _<_}
 use native.Mathlib.Omega.{arith}
 use lib.Dec.{eqb}
-use lib.Bits.{bitOr}
 use borrow.Author.Tests.{eqb-true, eq-eqb, ne-eqb}
 use borrow.Author.Needs.{needs}
 use Rattle.theory_spec.proofs.ListLaws.{and-split}
@@ -24,11 +23,9 @@ module _ (entry : ℕ) (before touched : Touched) where
   keeps : entry ≡ kept → before ≡ cond (not (eqb entry kept)) (united before touched) before
   keeps k = sym (rw (eq-eqb entry kept k))
 
-  adds : entry ≢ kept → (own : Touched) → own ≡ touched
-      → record { reads = bitOr (before .reads) (own .reads); writes = bitOr (before .writes) (own .writes) }
-      ≡ cond (not (eqb entry kept)) (united before touched) before
-  unfolding united
-  adds m own e = ap (united before) e ∙ sym (rw (ne-eqb entry kept m))
+  adds : entry ≢ kept → (own : Touched) → own ≡ touched → (both : Touched) → both ≡ united before own
+      → both ≡ cond (not (eqb entry kept)) (united before touched) before
+  adds m own e both j = j ∙ ap (united before) e ∙ sym (rw (ne-eqb entry kept m))
 
 -- where there is nothing to add
 full : (entry : ℕ) (before : Touched) (wide : ℕ) (o : Option Lines) → wide < 65536 → before .reads ≡ wide
@@ -58,13 +55,16 @@ returns-2 c =
 touched-requires : tie.Need-touched-requires
 touched-requires c κs = search needs
 
+joined-requires : tie.Need-joined-requires
+joined-requires c κs = search needs
+
 returns-3 : tie.Need-returns-3
 returns-3 c =
-    let joined = c .before .before in
-    let own = joined .before .before in
+    let own = c .before in
     let marked = own .before .before .before in
     let s = marked .before .args in
-    adds (s .entry) (s .before) _ (marked .if1 .left) (own .touched .result) (own .touched .ensures)
+    adds (s .entry) (s .before) _ (marked .if1 .left) (own .touched .result) (own .touched .ensures) _
+    (c .joined .ensures)
 
 pub with-mark-spec : {M : Type 1} → statement M
-with-mark-spec = tie.close (tie.spec returns are-full-requires returns-2 touched-requires returns-3)
+with-mark-spec = tie.close (tie.spec returns are-full-requires returns-2 touched-requires joined-requires returns-3)
