@@ -215,7 +215,10 @@ unions =
     -- (1,1) alone is marked. Wrong: 1 and 2 are written, as of the built table
     ∷ record { asked = check E 2 (replicate 6 255 ++ markBytes 1 ++ replicate 6 255); expected = accepts 0 1 }
     -- (1) reads both positions, (2,2) writes 1. Wrong: nothing is written, by one that ends where all is read
-    ∷ record { asked = check equals 2 (keptBytes ++ markBytes 0 ++ replicate 8 255 ++ markBytes 2); expected = accepts 3 1 }
+    ∷ record {
+      asked = check equals 2 (keptBytes ++ markBytes 0 ++ replicate 8 255 ++ markBytes 2);
+      expected = accepts 3 1;
+    }
     -- (1,1) is marked rightly, (1,2) wrongly. Wrong: 1 is written, by the marks before the fault
     ∷ record {
       asked =

@@ -28,11 +28,11 @@ module _ (set : RuleSet) (formed : WellFormed set) (q : Sequence) (h : Numbered 
   unfolding touchedIn
   denied-untouched d = ap (touchedOf set) (denied-iff set formed q h .1 d)
 
-  -- without vectors there is no macro
-  no-macro : composed set q ≡ none → (m : Macro) → Means set q m → ⊥
-  no-macro e m means =
+  -- and has no macro, so nothing that is told of macros holds of it
+  pub denied-no-macro : Denied set q → (m : Macro) → Means set q m → ⊥
+  denied-no-macro d m means =
       let w = means-admitted set formed q m means in
-      Option·none-ne-some (w .1) (sym (denied-iff set formed q h .0 e (w .0) (w .2)) ∙ w .3)
+      Option·none-ne-some (w .1) (sym (d (w .0) (w .2)) ∙ w .3)
 
   module _ (i : ℕ) (l : i < 16) where
     -- a set of a sequence tells of its macro what it tells of two vectors
@@ -47,7 +47,7 @@ module _ (set : RuleSet) (formed : WellFormed set) (q : Sequence) (h : Numbered 
             → (has (part (touchedOf set o)) i ≡ true) ↔ ((m : Macro) × Means set q m × P m)
         go none e = (
           λ t. absurd (false≢true (sym (ap (λ n. has n i) empty ∙ has-none i) ∙ t)),
-          λ w. absurd (no-macro e (w .0) (w .1)),
+          λ w. absurd (denied-no-macro (denied-iff set formed q h .0 e) (w .0) (w .1)),
         )
         go (some m) e =
             let means = composed-means set formed q h m e in

@@ -26,7 +26,8 @@ use Rattle.tables_laws.specs.how.ShortSequences.{shortSequence}
 use Rattle.tables_laws.proofs.SequenceLoopLaws.{near-at}
 
 module _ (set : RuleSet) (valid : WellFormed set) (reach : ℕ) (near : reach ≤ 3)
-    (i : ℕ) (h : i < tableEntries set reach) (vectors : Vectors) (v : vectors ≡ asVectors (composed set (shortSequence (set .count) i))) where
+    (i : ℕ) (h : i < tableEntries set reach)
+    (vectors : Vectors) (v : vectors ≡ asVectors (composed set (shortSequence (set .count) i))) where
   -- the vectors of an index are those of its sequence
   own-lines : linesOf vectors ≡ composed set (sequenceAt set reach i)
   own-lines =

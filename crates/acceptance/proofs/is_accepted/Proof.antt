@@ -1,4 +1,4 @@
--- `acceptance::is_accepted` meets its contract. The invariant: whether the entries left are justified decides the whole.
+-- `acceptance::is_accepted` meets its contract. The invariant: whether the entries left are justified decides it all.
 -- Assumes nothing.
 use mathlib.Core.Path.{_≡_, sym, _∙_}
 use mathlib.Core.List.{List}
