@@ -6,7 +6,7 @@
 // - `m` the macro of these moves: the outcome, and condition, effect and cost in the notation of a rule file, and the
 //   positions that it reads and writes, with commas between; of a refusal whether the answer is zeros throughout
 // - `w` whether the moves before ` by ` are redundant with those after it
-// The answers that `stdout` holds were written by hand from document 01 and from the source documents.
+// The answers that `stdout` holds were written by hand from documents 01 and 02 and from the source documents.
 use bytes::scan::find;
 use cases_common::decode;
 use libc::STDIN_FILENO;

@@ -19,9 +19,9 @@
 // is a blank, and leaves a blank. It has the name of source 000, by row, column and direction. In the order of their
 // names: 1 11D, 2 11R, 3 12D, 4 12L, 5 12R, 6 13D, 7 13L, 8 21D, 9 21R, 10 21U, 11 22D, 12 22L, 13 22R, 14 22U, 15
 // 23D, 16 23L, 17 23U, 18 31R, 19 31U, 20 32L, 21 32R, 22 32U, 23 33L, 24 33U. The answers that `stdout` holds were
-// worked out from document 01 and the source documents by a script that runs every sequence in every state; where
-// there are too many states (boards, pancakes, 16 positions of 16 values), in states that tell its entries apart, or
-// by hand. Those of the small tables, and the sums where there is a pattern, were worked out by hand as well.
+// worked out from documents 01 and 02 and the source documents by a script that runs every sequence in every state;
+// where there are too many states (boards, pancakes, 16 positions of 16 values), in states that tell its entries apart,
+// or by hand. Those of the small tables, and the sums where there is a pattern, were worked out by hand as well.
 use buffers::fill_from;
 use bytes::scan::find;
 use cases_buffers::put_byte;
