@@ -23,6 +23,11 @@ fn listed(text: &[u8], out: &mut [u8]) -> usize
     report::report(text, out)
 }
 
+// A buffer that every listing fits. In `main` itself so long an array would take the check a second more.
+fn listing_buffer() -> [u8; LISTING_SIZE] {
+    [0u8; LISTING_SIZE]
+}
+
 // Reads on, and answers whether more may follow.
 fn skip_some() -> bool {
     let mut rest = io::large_buffer();
@@ -42,7 +47,7 @@ fn skip_rest() {
 fn main() {
     let mut text = io::large_buffer();
     let n = io::read_full(STDIN_FILENO, &mut text);
-    let mut out = [0u8; LISTING_SIZE];
+    let mut out = listing_buffer();
     let size = listed(&text[..n], &mut out);
     io::write_all(STDOUT_FILENO, &out[..size]);
     if n == 65536 {
