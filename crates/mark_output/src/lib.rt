@@ -6,7 +6,7 @@ use sequence_output::put_sequence_line;
 use sequences::profile_at;
 use tables::KEPT;
 use touched::touched;
-use touched::wide_positions;
+use wide_positions::wide_positions;
 ghost use mathlib.Core.Path.{_≡_};
 ghost use Rattle.output_laws.specs.how.Overlay.{Laid};
 ghost use Rattle.report_laws.specs.how.Marks.{indexTouched, entryLines};

@@ -4,46 +4,16 @@ use macros_spec::Vectors;
 use model_spec::FIRST_VARIABLE;
 use model_spec::MAX_POSITIONS;
 use model_spec::PLACE_COUNT;
-use model_spec::RuleSet;
 ghost use mathlib.Core.Path.{_≡_};
 ghost use mathlib.Core.Bool.{not, cond, _&&_};
 ghost use Prim.Native.Nat.{ℕ, _<_, _^_};
-ghost use lib.Dec.{eqb, ltb};
+ghost use lib.Dec.{eqb};
 ghost use lib.ListN.{getD};
 ghost use Rattle.theory_spec.specs.Sets.{has, setOf};
 ghost use Rattle.model_spec.specs.Limits.{placeCount};
-ghost use Rattle.model_spec.specs.States.{width};
 ghost use Rattle.macros_spec.specs.Composition.{linesOf};
 ghost use Rattle.macros_spec.specs.Touched.{names, namedElsewhere};
-ghost use Rattle.macros_spec.specs.how.Touching.{widePositions, touchedWithin};
-
-// Whether a position has two values or more.
-fn is_wide(positions: u8, sizes: [u8; PLACE_COUNT], place: usize) -> bool
-    requires { ⌜ place < placeCount ⌝ }
-    ensures { λ r. ⌜ r ≡ ltb 1 (width positions sizes place) ⌝ }
-{
-    if place < positions as usize {
-        return 1 < sizes[place];
-    }
-    false
-}
-
-// The positions with two values or more.
-pub fn wide_positions(set: RuleSet) -> u16
-    ensures { λ r. ⌜ r ≡ widePositions set ⌝ }
-{
-    let positions = set.positions;
-    let sizes = set.sizes;
-    let mut wide: u16 = 0;
-    let mut k: usize = 0;
-    while k < PLACE_COUNT {
-        if is_wide(positions, sizes, k) {
-            wide = wide | 1u16 << k;
-        }
-        k += 1;
-    }
-    wide
-}
+ghost use Rattle.macros_spec.specs.how.Touching.{touchedWithin};
 
 // The position that an entry names, as a set, if the entry stands at another place; else none. A function of its own,
 // so that the loop over a line is compiled without branches: the check of a table runs it twice for a mark.

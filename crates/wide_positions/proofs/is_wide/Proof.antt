@@ -1,10 +1,10 @@
--- `touched::is_wide` meets its contract.
+-- `wide_positions::is_wide` meets its contract.
 -- Assumes nothing.
 use borrow.Author.Tests.{lt-ltb, le-ltb}
 use borrow.Author.Needs.{needs}
 use Rattle.model_spec.specs.States.{width}
-use Rattle.touched.proofs.is_wide.Statement.{statement}
-use Rattle.touched.proofs.is_wide.Tie as tie
+use Rattle.wide_positions.proofs.is_wide.Statement.{statement}
+use Rattle.wide_positions.proofs.is_wide.Tie as tie
 
 array-read-result : tie.Need-array-read-result
 array-read-result c = search needs

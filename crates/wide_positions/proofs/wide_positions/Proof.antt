@@ -1,4 +1,4 @@
--- `touched::wide_positions` meets its contract. The invariant: the places before k with two values or more.
+-- `wide_positions::wide_positions` meets its contract. The invariant: the places before k with two values or more.
 -- Assumes nothing.
 use mathlib.Core.Path.{sym, _∙_}
 use mathlib.Core.Logic.{⊎-elim}
@@ -11,8 +11,8 @@ use Rattle.model_spec.specs.States.{width}
 use Rattle.macros_spec.specs.Touched.{manyValued}
 use Rattle.macros_spec.specs.how.Touching.{widePositions}
 use Rattle.macros_spec.proofs.TouchedLoopLaws.{Filled, put-in, left-out, filled}
-use Rattle.touched.proofs.wide_positions.Statement.{statement}
-use Rattle.touched.proofs.wide_positions.Tie as tie
+use Rattle.wide_positions.proofs.wide_positions.Statement.{statement}
+use Rattle.wide_positions.proofs.wide_positions.Tie as tie
 
 abbrev Inv-loop : tie.InvT-loop
 Inv-loop positions sizes wide₀ k₀ wide k = Filled (λ i. ltb 1 (width positions sizes i)) wide k
