@@ -49,14 +49,7 @@ fn with_entry(set: RuleSet, wide: u16, before: Touched, table: &[u8], i: usize) 
     }
     let own = profile_at(set, i);
     if !witness_serves(set, own, i, entry) {
-        let none = Touched {
-            reads: 0,
-            writes: 0,
-        };
-        return TableAnswer {
-            outcome: 14,
-            touched: none,
-        };
+        return refused(14);
     }
     let touched = with_mark(before, wide, entry, own.vectors);
     TableAnswer {

@@ -23,7 +23,8 @@ fn listed(text: &[u8], out: &mut [u8]) -> usize
     report::report(text, out)
 }
 
-// A buffer that every listing fits. In `main` itself so long an array would take the check a second more.
+// A buffer that every listing fits. A function of its own, since so long an array in `main` takes the prover a second
+// more.
 fn listing_buffer() -> [u8; LISTING_SIZE] {
     [0u8; LISTING_SIZE]
 }

@@ -28,7 +28,7 @@ module _ (set : RuleSet) (formed : WellFormed set) (q : Sequence) (h : Numbered 
   unfolding touchedIn
   denied-untouched d = ap (touchedOf set) (denied-iff set formed q h .1 d)
 
-  -- and has no macro, so nothing that is told of macros holds of it
+  -- and has no macro: neither `SequenceReads` nor `SequenceWrites` holds of it, and so a mark of it adds nothing
   pub denied-no-macro : Denied set q → (m : Macro) → Means set q m → ⊥
   denied-no-macro d m means =
       let w = means-admitted set formed q m means in

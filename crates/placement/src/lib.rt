@@ -1,4 +1,5 @@
-// Entries of a line: whether one is within its limit, and whether a variable may stand at its place.
+// Places of a line: how many values one has, whether an entry is within its limit, and whether a variable may stand
+// there.
 use model_spec::FIRST_VARIABLE;
 use model_spec::PLACE_COUNT;
 ghost use mathlib.Core.Path.{_≡_};
@@ -18,7 +19,7 @@ fn entry_at(list: &[u8; PLACE_COUNT], i: usize) -> u8
 }
 
 // How many values a place has: its size, and 1 beyond the positions.
-fn width_at(positions: u8, sizes: &[u8; PLACE_COUNT], i: usize) -> u8
+pub fn width_at(positions: u8, sizes: &[u8; PLACE_COUNT], i: usize) -> u8
     ensures { λ r. ⌜ r ≡ width positions (now (sizes .entry)) i ⌝ }
 {
     if i < positions as usize {

@@ -21,7 +21,7 @@ textTableSize text reach = ofText text (λ set. tableSize set reach) (λ n. reco
 unfoldable pub packedTableSize : List ℕ → ℕ → ℕ
 packedTableSize text reach = packedLength (textTableSize text reach .outcome) (textTableSize text reach .length)
 
--- the builder's answer for a table of `size` bytes; a refused text's number, and no positions
+-- the builder's answer for a table of `size` bytes; of a refused text its number, and no positions
 unfoldable pub textBuildAnswer : List ℕ → ℕ → ℕ → TableAnswer
 textBuildAnswer text reach size = ofText text (λ set. buildAnswer set reach size) refusedTable
 
@@ -29,7 +29,7 @@ textBuildAnswer text reach size = ofText text (λ set. buildAnswer set reach siz
 unfoldable pub textBuiltBuffer : List ℕ → ℕ → ℕ → List ℕ
 textBuiltBuffer text reach size = ofText text (λ set. builtBuffer set reach size) (λ n. replicate size 0)
 
--- the check's answer
+-- the check's answer, likewise
 unfoldable pub textCheckAnswer : List ℕ → ℕ → List ℕ → TableAnswer
 textCheckAnswer text reach table = ofText text (λ set. checkAnswer set reach table) refusedTable
 

@@ -24,7 +24,7 @@ pub fn refused(outcome: u8) -> TableAnswer
     TableAnswer { outcome, touched }
 }
 
-// Whether both unions have all positions that a mark can add: those with two values or more.
+// Whether both unions have all positions of `wide`, so that a mark can add none.
 fn are_full(sets: Touched, wide: u16) -> bool
     ensures { λ r. ⌜ r ≡ (eqb (sets .reads) wide && eqb (sets .writes) wide) ⌝ }
 {
@@ -45,8 +45,8 @@ fn joined(first: Touched, second: Touched) -> Touched
 }
 
 // Both unions with the entry of one sequence more, of which these are the vectors: as they were where it is kept.
-// `wide` has the positions with two values or more. Full unions are left at once: the builder calls this for each
-// entry, the check for each justified mark.
+// Of what the sequence touches the positions of `wide` count; builder and check give those with two values or more.
+// Full unions are left at once: the builder calls this for each entry, the check for each justified mark.
 pub fn with_mark(before: Touched, wide: u16, entry: usize, vectors: Vectors) -> Touched
     ensures { λ r. ⌜
         (let own = touchedWithin wide (linesOf vectors) in

@@ -36,9 +36,8 @@ module _ (set : RuleSet) (table : List ℕ) (i entry : ℕ) (e : entry ≡ entry
       sym (rw (kept-justified set 3 table i is, eq-eqb (entryAt table i) kept is))
 
   -- the mark is not justified
-  turned-down : entryJustified set 3 table i ≡ false
-      → _≡_ {A = TableAnswer} (refusedTable 14) due
-  turned-down f = sym (rw f)
+  turned-down : entryJustified set 3 table i ≡ false → (r : TableAnswer) → r ≡ refusedTable 14 → r ≡ due
+  turned-down f r e = e ∙ sym (rw f)
 
   -- it is, and is added
   adds : entryJustified set 3 table i ≡ true → (found after : Touched) → found ≡ own
@@ -82,13 +81,16 @@ serves c =
     (own .profile-at .ensures .0) (s .args .table .now) (entry .result) (entry .ensures .0) (own .before .if1 .left)
     (own .profile-at .result .cost) (own .profile-at .ensures .1) _ (c .witness-serves .ensures)
 
+refused-requires : tie.Need-refused-requires
+refused-requires c κs = search needs
+
 returns-2 : tie.Need-returns-2
 returns-2 c =
-    let tested = c .before in
+    let tested = c .before .before in
     let s = startOf (tested .before) .args in
     let entry = entryOf (tested .before) .entry-at in
     turned-down (s .set) (s .table .now) (s .i) (entry .result) (entry .ensures .0) (s .before) _
-    (failed (serves tested) (c .if2 .taken))
+    (failed (serves tested) (c .before .if2 .taken)) _ (c .refused .ensures)
 
 with-mark-requires : tie.Need-with-mark-requires
 with-mark-requires c κs = search needs
@@ -114,6 +116,7 @@ with-entry-spec =
     returns
     profile-at-requires
     witness-serves-requires
+    refused-requires
     returns-2
     with-mark-requires
     returns-3)

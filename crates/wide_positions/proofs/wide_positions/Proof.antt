@@ -1,10 +1,11 @@
 -- `wide_positions::wide_positions` meets its contract. The invariant: the places before k with two values or more.
 -- Assumes nothing.
-use mathlib.Core.Path.{sym, _∙_}
+use mathlib.Core.Path.{sym, ap, _∙_}
 use mathlib.Core.Logic.{⊎-elim}
 use Prim.Native.Nat.{_-_}
 use native.Mathlib.Omega.{arith}
 use lib.Dec.{ltb}
+use borrow.Author.Tests.{lt-ltb, le-ltb}
 use borrow.Author.Needs.{needs}
 use Rattle.theory_spec.proofs.SetLaws.{filled-none}
 use Rattle.model_spec.specs.States.{width}
@@ -23,8 +24,8 @@ abbrev μ-loop : tie.MeasureT-loop
 loop-holds : tie.Need-loop-holds Inv-loop μ-loop
 loop-holds c = (search needs, search needs, filled-none _)
 
-is-wide-requires : tie.Need-is-wide-requires Inv-loop μ-loop
-is-wide-requires c κs = search needs
+width-at-requires : tie.Need-width-at-requires Inv-loop μ-loop
+width-at-requires c κs = search needs
 
 cast-wide : tie.Need-cast-wide Inv-loop μ-loop
 cast-wide c = search needs
@@ -41,11 +42,13 @@ loop-less c = search needs
 loop-again : tie.Need-loop-again Inv-loop μ-loop
 loop-again c =
     let tested = c .before in
-    let l = tested .before .before .loop in
-    let h = tested .before .loop-test .taken in
+    let turn = tested .before .before in
+    let l = turn .before .loop in
+    let h = turn .loop-test .taken in
+    let same = sym (ap (ltb 1) (tested .width-at .ensures)) in
     ⊎-elim
-    (λ w. put-in _ (l .wide) (l .k) (l .inv) h (sym (tested .is-wide .ensures) ∙ w .0 .taken) _ (w .1))
-    (λ w. left-out _ (l .wide) (l .k) (l .inv) h (sym (tested .is-wide .ensures) ∙ w .0 .left) _ (w .1))
+    (λ w. put-in _ (l .wide) (l .k) (l .inv) h (same ∙ lt-ltb _ _ (w .0 .taken)) _ (w .1))
+    (λ w. left-out _ (l .wide) (l .k) (l .inv) h (same ∙ le-ltb _ _ (w .0 .left)) _ (w .1))
     (c .if1 .came)
 
 returns : tie.Need-returns Inv-loop μ-loop
@@ -59,7 +62,7 @@ wide-positions-spec =
     Inv-loop
     μ-loop
     loop-holds
-    is-wide-requires
+    width-at-requires
     cast-wide
     shl-wide
     add-k
