@@ -26,7 +26,7 @@ static const char *general_words(uint8_t outcome, const char *success)
         [PLANNER_BAD_FORM] = "rule file: a byte does not fit, the file ends early, or bytes are left over",
         [PLANNER_OUTSIDE_LIMIT] = "rule file: a number outside its limit",
         [PLANNER_MISPLACED_VARIABLE] = "rule file: a variable out of place",
-        [PLANNER_DUPLICATE_RULES] = "rule file: two rules with equal if and then lines, whatever their costs",
+        [PLANNER_DUPLICATE_RULES] = "rule file: two rules with equal cost, if and then lines",
         [PLANNER_BAD_REACH] = "the reach is not 1 to " DIGITS(PLANNER_MAX_REACH),
         [PLANNER_BAD_TABLE_LENGTH] = "the table has not the length for these rules and this reach",
         [PLANNER_INVALID_RULE_SET] = "the rule set is not valid",

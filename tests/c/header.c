@@ -40,6 +40,8 @@ static void files(void)
     static const uint8_t many[] = "positions=17\n";
     static const uint8_t later[] = "positions=2\nsizes=2,2\nrules=1\ncost=1\nif=x2,x2\nthen=0,0\n";
     static const uint8_t equal[] =
+        "positions=1\nsizes=2\nrules=2\ncost=1\nif=x1\nthen=0\ncost=1\nif=x1\nthen=0\n";
+    static const uint8_t dearer[] =
         "positions=1\nsizes=2\nrules=2\ncost=1\nif=x1\nthen=0\ncost=2\nif=x1\nthen=0\n";
     uint8_t out[90];
     expect("planner_read", planner_read(rules, RULES_LENGTH) == PLANNER_OK);
@@ -47,6 +49,7 @@ static void files(void)
     expect("planner_read of a later position's variable",
            planner_read(later, sizeof later - 1) == PLANNER_MISPLACED_VARIABLE);
     expect("planner_read of equal rules", planner_read(equal, sizeof equal - 1) == PLANNER_DUPLICATE_RULES);
+    expect("planner_read of equal lines and another cost", planner_read(dearer, sizeof dearer - 1) == PLANNER_OK);
     memset(out, 7, sizeof out);
     uint64_t answer = planner_rewrite(rules, RULES_LENGTH, out, sizeof out);
     expect("planner_rewrite", planner_outcome(answer) == PLANNER_OK && planner_size(answer) == 82);

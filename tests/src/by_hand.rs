@@ -22,6 +22,17 @@ pub fn gives(call: &Call, number: u64, buffer: Vec<u8>) {
     check(call, &answer);
 }
 
+/// The reader gives this outcome; an accepted file is written again in full.
+pub fn reads(shown: &str, outcome: u64) {
+    let text = file(shown);
+    gives(&Call::Read { text: text.clone() }, outcome, vec![]);
+    if outcome == 0 {
+        gives(&Call::Rewrite { text: text.clone(), out_length: text.len() }, (text.len() as u64) << 8, text);
+    } else {
+        gives(&Call::Rewrite { text: text.clone(), out_length: text.len() }, outcome, vec![0; text.len()]);
+    }
+}
+
 /// The entries of a line, as a file has them, in sixteen bytes of a macro.
 fn line(shown: &str) -> Vec<u8> {
     let number = |text: &str| text.parse::<u8>().expect("a number");

@@ -10,23 +10,26 @@ pub fn damaged(random: &mut Random, text: &[u8]) -> Vec<u8> {
     }
     let (front, back) = text.split_at(random.below(text.len()));
     let byte = [random.pick(b"0123456789,x\n= \0\xff")];
-    match random.below(11) {
+    match random.below(12) {
         0 => [front, &back[1..]].concat(),
         1 => [front, &byte, back].concat(),
         2 => front.to_vec(),
         3 => [text, &byte].concat(),
-        4 => with_duplicates(text),
-        5 | 6 => with_entry(random, text),
-        7 => with_number(random, text),
+        4 | 5 => with_same_lines(random, text),
+        6 | 7 => with_entry(random, text),
+        8 => with_number(random, text),
         _ => with_digit(random, text),
     }
 }
 
-/// The file with the lines of its first rule in the place of its second rule's, if it has two.
-fn with_duplicates(text: &[u8]) -> Vec<u8> {
+/// The file with the `if` and `then` lines of one rule in the place of another's, if it has two; most often with the same cost as well.
+fn with_same_lines(random: &mut Random, text: &[u8]) -> Vec<u8> {
     let mut lines: Vec<&[u8]> = text.split(|&byte| byte == b'\n').collect();
-    if lines.len() > 9 {
-        (lines[7], lines[8]) = (lines[4], lines[5]);
+    let costs: Vec<usize> = (0..lines.len()).filter(|&line| lines[line].starts_with(b"cost=")).collect();
+    let (one, other) = (random.pick(&costs), random.pick(&costs));
+    (lines[other + 1], lines[other + 2]) = (lines[one + 1], lines[one + 2]);
+    if random.chance(60) {
+        lines[other] = lines[one];
     }
     lines.join(&b'\n')
 }

@@ -99,6 +99,12 @@ fn rule(random: &mut Random, kinds: &[usize], sizes: &[u8], earlier: &[Rule], co
             let narrowed = |entry: &Entry| if *entry == Entry::Place(one) { known } else { *entry };
             (condition, effect) = (rule.condition.iter().map(narrowed).collect(), rule.effect.iter().map(narrowed).collect());
         }
+        // an earlier rule's lines, for as much, for about as much, or for another cost
+        8 => {
+            let rule = random.pick(earlier);
+            let other = random.pick(&[rule.cost, rule.cost + 1, rule.cost.saturating_sub(1), cost, 0, 255]);
+            return Rule { cost: other.min(255), ..rule };
+        }
         // two or three earlier rules in one, for about as much or for more
         _ => {
             let set = Set { sizes: sizes.to_vec(), rules: earlier.to_vec() };
@@ -131,11 +137,11 @@ fn cost(random: &mut Random, way: usize, place: usize) -> u32 {
 fn family(random: &mut Random, states: usize, most_rules: usize) -> (Vec<u8>, usize, &'static [usize]) {
     let number = random.from_to(1, most_rules);
     match random.below(8) {
-        0 => (vec![random.from_to(4, 9) as u8], random.from_to(6, 20), &[1, 1, 1, 8, 8]),
-        1 => (vec![random.from_to(3, 6) as u8, random.from_to(2, 3) as u8], random.from_to(6, 20), &[1, 1, 1, 0, 8, 8]),
-        2 => (vec![random.pick(&[2, 3]); random.from_to(3, 5)], number, &[2, 2, 2, 5, 7, 8]),
-        3 => (sizes(random, states), number, &[0, 0, 3, 2, 7, 8]),
-        _ => (sizes(random, states), number, &[0, 1, 2, 3, 4, 4, 4, 4, 5, 6, 7, 8]),
+        0 => (vec![random.from_to(4, 9) as u8], random.from_to(6, 20), &[1, 1, 1, 8, 9, 9]),
+        1 => (vec![random.from_to(3, 6) as u8, random.from_to(2, 3) as u8], random.from_to(6, 20), &[1, 1, 1, 0, 8, 9, 9]),
+        2 => (vec![random.pick(&[2, 3]); random.from_to(3, 5)], number, &[2, 2, 2, 5, 7, 9]),
+        3 => (sizes(random, states), number, &[0, 0, 3, 2, 7, 9]),
+        _ => (sizes(random, states), number, &[0, 1, 2, 3, 4, 4, 4, 4, 5, 6, 7, 8, 9]),
     }
 }
 

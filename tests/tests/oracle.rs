@@ -72,6 +72,26 @@ fn both_ways_to_redundancy_agree() {
 }
 
 #[test]
+fn the_dearer_of_two_rules_with_the_same_lines_is_marked_if_it_stands_later() {
+    // pairs of rules with the same lines: the later one dearer, the later one cheaper
+    let mut met = [0; 2];
+    drawn("same lines", 1500, 200, 8, |random, set| {
+        let reach = random.from_to(1, 2);
+        let redundancy = Redundancy::by_state(set, reach);
+        let table = built(&redundancy);
+        for (earlier, later) in set.same_lines() {
+            let dearer_later = set.rule(earlier).cost < set.rule(later).cost;
+            met[usize::from(!dearer_later)] += 1;
+            let (earlier, later) = (earlier as usize, later as usize);
+            assert_eq!(redundancy.redundant(later, earlier), dearer_later, "{set:?} {earlier} {later}");
+            assert!(if dearer_later { table[later] as usize <= earlier } else { table[later] as usize != earlier }, "{set:?} {earlier} {later}");
+            assert_ne!(table[earlier] as usize, later, "{set:?} {earlier} {later}");
+        }
+    });
+    assert!(met.iter().all(|&count| count >= 100), "too few: {met:?}");
+}
+
+#[test]
 fn both_ways_to_touched_positions_agree() {
     // sequences compared; those that read a position, that write one, that do one of both alone, and that no state admits
     let mut met = [0; 5];

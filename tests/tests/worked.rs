@@ -1,20 +1,10 @@
 //! Document 01's worked cases, its Edges, and examples of the source documents, with their answers as the documents give them. Library and oracle have to give just these.
 
-use planner_tests::by_hand::{builds, built, checks, file, gives, macro_is, macro_refused, table, unions, E, H};
+use planner_tests::by_hand::{builds, built, checks, file, gives, macro_is, macro_refused, reads, table, unions, E, H};
 use planner_tests::calls::{Call, Query};
 use planner_tests::oracle::table::{entries, KEPT};
 
 const P11: &str = "positions=3/sizes=3,3,3/rules=2/cost=1/if=x1,x2,x3/then=x1,x1,x3/cost=1/if=x1,x2,x2/then=0,x2,x2/";
-
-fn reads(shown: &str, outcome: u64) {
-    let text = file(shown);
-    gives(&Call::Read { text: text.clone() }, outcome, vec![]);
-    if outcome == 0 {
-        gives(&Call::Rewrite { text: text.clone(), out_length: text.len() }, (text.len() as u64) << 8, text);
-    } else {
-        gives(&Call::Rewrite { text: text.clone(), out_length: text.len() }, outcome, vec![0; text.len()]);
-    }
-}
 
 struct Asked<'a> {
     rules: &'a str,
@@ -118,8 +108,8 @@ fn faults_of_a_file_in_text_order() {
     reads(&two("if=x1,x1/then=x2,0/"), 3);
     reads("positions=2/sizes=3,4/rules=1/cost=1/if=x1,x1/then=0,0/", 3);
     reads("positions=2/sizes=3,4/rules=1/cost=1/if=x1,x2/then=x2,0/", 3);
-    // duplicates come last, after bytes that are left over; costs do not tell rules apart
-    let duplicates = "positions=1/sizes=2/rules=2/cost=1/if=0/then=1/cost=2/if=0/then=1/";
+    // duplicates come last, after bytes that are left over
+    let duplicates = "positions=1/sizes=2/rules=2/cost=1/if=0/then=1/cost=1/if=0/then=1/";
     reads(duplicates, 4);
     reads(&format!("{duplicates}/"), 1);
 }

@@ -8,7 +8,7 @@
 // - `w` read the text and write its set into five buffers: of no byte, one byte shorter than the text, as long, one
 //   byte longer, and of 65,536 bytes: outcome and length of each, and what the buffer then holds
 // - `s` read the text, spoil the set in each of some ways and write it: the outcomes, a digit each
-// The answers that `stdout` holds were written by hand from document 01.
+// The answers that `stdout` holds were written by hand from documents 01 and 02.
 use bytes::scan::find;
 use libc::STDIN_FILENO;
 use libc::STDOUT_FILENO;

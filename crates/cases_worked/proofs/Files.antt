@@ -35,6 +35,19 @@ many n =
     ++ flat (λ k. bytes "cost=0\n" ++ line "if=" (numeral (k / 16) ∷ numeral (k % 16) ∷ []) ++ bytes "then=0,0\n")
     (numbersFrom 0 n)
 
+-- a rule that makes 1 of 0, at a cost; a file of it at two costs
+abbrev shunt : String → List ℕ
+shunt cost = bytes "cost=" ++ bytes cost ++ bytes "\nif=0\nthen=1\n"
+
+abbrev twice : String → String → List ℕ
+twice first second = bytes "positions=1\nsizes=2\nrules=2\n" ++ shunt first ++ shunt second
+
+-- E with a third rule like its first, these two at the costs given
+abbrev pub likeFirst : String → String → List ℕ
+likeFirst first third =
+    bytes "positions=2\nsizes=2,2\nrules=3\ncost=" ++ bytes first ++ bytes "\nif=x1,x2\nthen=0,x2\n"
+    ++ bytes "cost=1\nif=x1,x2\nthen=x1,0\ncost=" ++ bytes third ++ bytes "\nif=x1,x2\nthen=0,x2\n"
+
 abbrev pub rows : List Row
 rows =
     -- the Edges
@@ -91,13 +104,26 @@ rows =
     -- rules: one less and one more than announced, duplicates, bytes left over
     ∷ record { text = bytes "positions=1\nsizes=2\nrules=2\ncost=1\nif=0\nthen=1\n"; outcome = 1 }
     ∷ record { text = lines "0,0" "1,1" ++ bytes "cost=1\nif=0,0\nthen=2,2\n"; outcome = 1 }
-    ∷ record { text = bytes "positions=1\nsizes=2\nrules=2\ncost=1\nif=0\nthen=1\ncost=2\nif=0\nthen=1\n"; outcome = 4 }
+    ∷ record { text = twice "1" "1"; outcome = 4 }
+    ∷ record { text = twice "1" "1" ++ bytes "\n"; outcome = 1 }
+    ∷ record { text = bytes "positions=1\nsizes=2\nrules=2\ncost=1\nif=0\nthen=1\ncost=1\nif=0\nthen=1"; outcome = 1 }
+    -- equal lines at other costs (document 02, request 2026-02), by whatever digit, and bytes left over; cost 0
+    ∷ record { text = twice "1" "2"; outcome = 0 }
+    ∷ record { text = twice "2" "1"; outcome = 0 }
+    ∷ record { text = twice "0" "255"; outcome = 0 }
+    ∷ record { text = twice "255" "127"; outcome = 0 }
+    ∷ record { text = twice "10" "11"; outcome = 0 }
+    ∷ record { text = twice "1" "2" ++ bytes "\n"; outcome = 1 }
+    ∷ record { text = twice "0" "0"; outcome = 4 }
+    ∷ record { text = twice "255" "255"; outcome = 4 }
+    -- two of three are equal in all; E with a third rule like its first, at cost 1, at cost 2, and the dearer one first
     ∷ record {
-      text =
-          bytes "positions=1\nsizes=2\nrules=2\ncost=1\nif=0\nthen=1\ncost=2\nif=0\nthen=1\n\n";
-      outcome = 1;
+      text = bytes "positions=1\nsizes=2\nrules=3\n" ++ shunt "1" ++ shunt "2" ++ shunt "1";
+      outcome = 4;
     }
-    ∷ record { text = bytes "positions=1\nsizes=2\nrules=2\ncost=1\nif=0\nthen=1\ncost=2\nif=0\nthen=1"; outcome = 1 }
+    ∷ record { text = likeFirst "1" "1"; outcome = 4 }
+    ∷ record { text = likeFirst "1" "2"; outcome = 0 }
+    ∷ record { text = likeFirst "2" "1"; outcome = 0 }
     ∷ []
 
 pub files-read : map (λ (row : Row). reading (row .text) .outcome) rows ≡ map (λ (row : Row). row .outcome) rows
@@ -110,8 +136,10 @@ files-read = refl
 abbrev rewritten : List ℕ → List ℕ
 rewritten text = render (reading text .set)
 
-pub files-rewritten : map rewritten (many 31 ∷ lines "x1,x1" "2,x1" ∷ file "1" "16" "255" "x1" "15" ∷ []) ≡ many 31
-    ∷ lines "x1,x1" "2,x1" ∷ file "1" "16" "255" "x1" "15" ∷ []
+abbrev files : List (List ℕ)
+files = many 31 ∷ lines "x1,x1" "2,x1" ∷ file "1" "16" "255" "x1" "15" ∷ likeFirst "1" "2" ∷ likeFirst "2" "1" ∷ []
+
+pub files-rewritten : map rewritten files ≡ files
 unfolding width conditionPlaced effectPlaced duplicate repeated hasDuplicates numeral line entryText ruleText render
     literal digits isNumber decimal number numberWithin variable constant entry sizeItem conditionItem effectItem
     itemsAfter numberLine listLine ruleLines rulesAfter ruleList fileLines finished reading

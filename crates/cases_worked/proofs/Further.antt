@@ -1,5 +1,5 @@
 -- Cases that P1 to P11 do not tell apart from a faulty planner, worked by hand, by evaluation: faults of source
--- document 003, positions read and written, costs, ties, order of refusals.
+-- document 003, positions read and written, costs, rules with the same lines, ties, order of refusals.
 -- And listings, the packed answer of P1, the plan part and the tally.
 use Prim.Native.Nat.{ℕ}
 use Prim.Native.String.{String}
@@ -37,6 +37,7 @@ use Rattle.search_spec.specs.declared.Tally.{Tally}
 use Rattle.planner_spec.specs.OfText.{ofText}
 use Rattle.planner_spec.specs.Packed.{packed, textRefused, searchedText, packedSearch}
 use Rattle.report_spec.specs.Listing.{markedIndices, markLines, listingOf, listing}
+use Rattle.cases_worked.proofs.Files.{likeFirst}
 use Rattle.cases_worked.proofs.Worked.{ruleSet, fileE, E, Question, search, macroOf, compose, touch, build}
 use Rattle.cases_worked.proofs.Worked.{check, list, enter, Reply, composes, vectors, touches, builds, checks}
 use Rattle.cases_worked.proofs.Worked.{lists, packs, reply, Row, told, answer, keptBytes, markBytes, tableE}
@@ -230,6 +231,48 @@ unions =
     ∷ record { asked = build E 2 13; expected = build-refused 6 13 }
     ∷ []
 
+-- ── Rules with the same lines ────────────────────────────────────────────────────────────────────
+
+-- E with a third rule like its first, the dearer one later, and the dearer one first
+abbrev dearerLater : RuleSet
+dearerLater = reading (likeFirst "1" "2") .set
+
+abbrev dearerFirst : RuleSet
+dearerFirst = reading (likeFirst "2" "1") .set
+
+-- two idle rules, the dearer one first
+abbrev idle : RuleSet
+idle = ruleSet "positions=1\nsizes=2\nrules=2\ncost=2\nif=0\nthen=0\ncost=1\nif=0\nthen=0\n"
+
+-- planners that pass E fail these: beside a case, what such a one says
+abbrev sameLines : List Row
+sameLines =
+    -- Wrong: 7, as by the lines alone; nothing is marked, as the file has both
+    record { asked = build dearerLater 1 8; expected = builds (answer 0 0 1) (replicate 6 255 ++ markBytes 1) }
+    -- Wrong: (1) is marked with (3), as it is dearer; (3) is marked with (1), as it is later
+    ∷ record { asked = build dearerFirst 1 8; expected = builds (answer 0 0 0) (replicate 8 255) }
+    ∷ record { asked = check dearerFirst 1 (keptBytes ++ markBytes 3 ++ replicate 4 255); expected = rejects 14 }
+    ∷ record { asked = check dearerFirst 1 (replicate 6 255 ++ markBytes 1); expected = rejects 14 }
+    -- for another reason both are marked
+    ∷ record { asked = build idle 1 6; expected = builds (answer 0 1 0) (keptBytes ++ markBytes 0 ++ markBytes 0) }
+    -- at reach 2, by index: all but the empty one, (1), (2) and (1,2)
+    ∷ record {
+      asked =
+          build dearerLater 2 26;
+      expected = builds (answer 0 0 3)
+          (replicate 6 255 ++ markBytes 1 ++ markBytes 1 ++ keptBytes ++ markBytes 1 ++ markBytes 5 ++ markBytes 2
+          ++ markBytes 5 ++ markBytes 1 ++ markBytes 5 ++ markBytes 1);
+    }
+    -- (2,3), of cost 2, is kept: (1,2) and (2,1) cost 3
+    ∷ record {
+      asked =
+          build dearerFirst 2 26;
+      expected = builds (answer 0 0 3)
+          (replicate 8 255 ++ markBytes 1 ++ keptBytes ++ markBytes 1 ++ markBytes 5 ++ markBytes 2 ++ keptBytes
+          ++ markBytes 1 ++ markBytes 9 ++ markBytes 1);
+    }
+    ∷ []
+
 -- ── Searches ─────────────────────────────────────────────────────────────────────────────────────
 
 -- two plans of cost 2: (3), and (1,2), which a depth-first search meets first
@@ -279,6 +322,9 @@ searches =
     ∷ record { asked = unpruned dear (0 ∷ []) (2 ∷ []) 2 20 4; expected = told 0 2 2 4 (2 ∷ 3 ∷ []) }
     ∷ record { asked = unpruned dear (0 ∷ []) (2 ∷ []) 1 20 4; expected = told 0 9 1 3 (1 ∷ []) }
     ∷ record { asked = unpruned dear (0 ∷ []) (2 ∷ []) 2 1 4; expected = told 15 0 0 2 (255 ∷ 255 ∷ []) }
+    -- of two rules with the same lines the plan has the cheaper one, be it the first or the last
+    ∷ record { asked = unpruned dearerLater (both 1) (both 0) 2 9 13; expected = told 0 2 2 13 (1 ∷ 2 ∷ []) }
+    ∷ record { asked = unpruned dearerFirst (both 1) (both 0) 2 9 13; expected = told 0 2 2 13 (2 ∷ 3 ∷ []) }
     -- any value meets 255; sequences beyond a goal state count
     ∷ record { asked = unpruned dear (0 ∷ []) (255 ∷ []) 2 20 4; expected = told 0 0 0 4 (255 ∷ 255 ∷ []) }
     ∷ record { asked = unpruned dear (0 ∷ []) (255 ∷ []) 2 20 3; expected = told 16 0 0 3 (255 ∷ 255 ∷ []) }
@@ -352,7 +398,7 @@ texts =
     ∷ []
 
 abbrev pub rows : List Row
-rows = macros ++ positions ++ tables ++ unions ++ searches ++ texts
+rows = macros ++ positions ++ tables ++ unions ++ sameLines ++ searches ++ texts
 
 pub further-cases : map (λ (row : Row). reply (row .asked)) rows ≡ map (λ (row : Row). row .expected) rows
 unfolding valueOf valuesOf applicable successor width states ruleAt stepOf ruleCost statesOf runIn sequenceCost admitted

@@ -1,4 +1,4 @@
-// Whether a set has duplicates (document 01: twins): two rules with equal conditions and equal effects.
+// Whether a set has duplicates (document 01: twins): two rules with equal costs, equal conditions and equal effects.
 use model_spec::MAX_RULES;
 use model_spec::RULE_PLACES;
 use model_spec::Rule;
@@ -9,10 +9,13 @@ ghost use Prim.Native.Nat.{min, _<_};
 ghost use Rattle.model_spec.specs.Limits.{maxRules};
 ghost use Rattle.model_spec.specs.Validity.{duplicate, repeated, hasDuplicates};
 
-// Whether two rules are duplicates: equal conditions and equal effects.
+// Whether two rules are duplicates: equal costs, equal conditions and equal effects.
 fn duplicate(a: Rule, b: Rule) -> bool
     ensures { λ r. ⌜ r ≡ duplicate a b ⌝ }
 {
+    if a.cost != b.cost {
+        return false;
+    }
     let first = a.condition;
     let second = b.condition;
     if !same_entries(&first, &second) {

@@ -19,7 +19,7 @@ use Rattle.model_spec.specs.Rules.{noRule, blankRule, emptySet, ruleAt, 
 use Rattle.model_spec.specs.Validity.{entryLimited, conditionPlaced, effectPlaced, conditionValid, effectValid}
 use Rattle.model_spec.specs.Validity.{sizeValid, sizesValid, ruleValid, ruleBlank, ruleValidAt, rulesValid}
 use Rattle.model_spec.specs.Validity.{duplicate, repeated, hasDuplicates, wellFormed, valid, EntryValid}
-use Rattle.model_spec.specs.Validity.{LinesValid, WellFormed, Valid}
+use Rattle.model_spec.specs.Validity.{LinesValid, WellFormed, Duplicate, Valid}
 use Rattle.model_spec.specs.declared.Rule.{Rule}
 use Rattle.model_spec.specs.declared.RuleSet.{RuleSet}
 use Rattle.model_spec.proofs.StateLaws.{width-position, width-beyond, value-constant, value-variable}
@@ -155,15 +155,16 @@ rules-iff set =
 
 -- ── Duplicates ───────────────────────────────────────────────────────────────────────────────────
 
-pub duplicate-iff : (a b : Rule) → (duplicate a b ≡ true) ↔ ((a .condition ≡ b .condition) × (a .effect ≡ b .effect))
+pub duplicate-iff : (a b : Rule) → (duplicate a b ≡ true) ↔ Duplicate a b
 unfolding duplicate
-duplicate-iff a b = and-iff _ _ (same-iff _ _) (same-iff _ _)
+duplicate-iff a b =
+    and-iff _ _ (eqb-iff (a .cost) (b .cost))
+    (and-iff _ _ (same-iff (a .condition) (b .condition)) (same-iff (a .effect) (b .effect)))
 
--- the test for duplicates passes exactly if some rule has the lines of an earlier one
+-- the test for duplicates passes exactly if some rule is a duplicate of an earlier one
 pub duplicates-iff : (rules : List Rule) (n : ℕ) → (hasDuplicates rules n ≡ true)
     ↔ ((k : ℕ) × (k < n)
-    × ((j : ℕ) × (j < k) × ((getD rules j noRule .condition ≡ getD rules k noRule .condition)
-    × (getD rules j noRule .effect ≡ getD rules k noRule .effect))))
+    × ((j : ℕ) × (j < k) × Duplicate (getD rules j noRule) (getD rules k noRule)))
 unfolding hasDuplicates repeated
 duplicates-iff rules n =
     any-below-iff _ _ (λ k. any-below-iff _ _ (λ j. duplicate-iff (getD rules j noRule) (getD rules k noRule)) k) n

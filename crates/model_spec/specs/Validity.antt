@@ -88,9 +88,12 @@ ruleValidAt set k =
 unfoldable pub rulesValid : RuleSet → Bool
 rulesValid set = eqb (length (set .rules)) maxRules && every (ruleValidAt set) (numbersFrom 0 maxRules)
 
--- two rules are duplicates (document 01: twins): their conditions and their effects are equal
+-- two rules are duplicates (document 01: twins): equal conditions and equal effects, and equal costs too (document 02,
+-- request 2026-02)
 unfoldable pub duplicate : Rule → Rule → Bool
-duplicate a b = same (a .condition) (b .condition) && same (a .effect) (b .effect)
+duplicate a b =
+    eqb (a .cost) (b .cost)
+    && (same (a .condition) (b .condition) && same (a .effect) (b .effect))
 
 -- the rule at place k is a duplicate of an earlier one
 unfoldable pub repeated : List Rule → ℕ → Bool
@@ -144,9 +147,16 @@ pub record WellFormed (set : RuleSet) : Type 0 where
       LinesValid (set .positions) (set .sizes) (rule .condition) (rule .effect))
   pub rulesBeyond : (k : ℕ) → set .count ≤ k → k < maxRules → getD (set .rules) k noRule ≡ blankRule
 
+-- two rules have the same lines (document 02: they do the same shunt): equal conditions and equal effects
+abbrev pub SameLines : Rule → Rule → Type 0
+SameLines a b = (a .condition ≡ b .condition) × (a .effect ≡ b .effect)
+
+-- two rules are duplicates (document 01: twins)
+abbrev pub Duplicate : Rule → Rule → Type 0
+Duplicate a b = (a .cost ≡ b .cost) × SameLines a b
+
 -- the set is valid (document 01: sound)
 pub record Valid (set : RuleSet) : Type 0 where
   pub formed : WellFormed set
   pub noDuplicates : (j k : ℕ) → j < k → k < set .count
-      → (getD (set .rules) j noRule .condition ≡ getD (set .rules) k noRule .condition)
-      × (getD (set .rules) j noRule .effect ≡ getD (set .rules) k noRule .effect) → ⊥
+      → Duplicate (getD (set .rules) j noRule) (getD (set .rules) k noRule) → ⊥

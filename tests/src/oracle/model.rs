@@ -41,13 +41,25 @@ impl Rule {
         self.effect.iter().map(new).collect()
     }
 
-    /// "Two rules are twins if their `if` lines and their `then` lines are equal."
-    pub fn is_duplicate_of(&self, other: &Rule) -> bool {
+    /// "if their `if` lines and their `then` lines are equal"
+    pub fn has_lines_of(&self, other: &Rule) -> bool {
         self.condition == other.condition && self.effect == other.effect
+    }
+
+    /// Document 02: "Rules are twins only if their costs agree too."
+    pub fn is_duplicate_of(&self, other: &Rule) -> bool {
+        self.has_lines_of(other) && self.cost == other.cost
     }
 }
 
 impl Set {
+    /// The numbers of each two rules that have the same lines, the earlier one first.
+    pub fn same_lines(&self) -> Vec<(u8, u8)> {
+        let numbers = 1..=self.rules.len() as u8;
+        let pairs = numbers.flat_map(|later| (1..later).map(move |earlier| (earlier, later)));
+        pairs.filter(|&(earlier, later)| self.rule(later).has_lines_of(self.rule(earlier))).collect()
+    }
+
     /// "Rule numbers .. start at 1."
     pub fn rule(&self, number: u8) -> &Rule {
         &self.rules[number as usize - 1]
