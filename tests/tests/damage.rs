@@ -16,7 +16,8 @@ const TEXTS: [&str; 9] = [
     "positions=2/sizes=3,12/rules=1/cost=100/if=x1,11/then=2,10/",
     "positions=3/sizes=4,4,4/rules=4/cost=1/if=0,x2,x2/then=1,0,x2/cost=1/if=1,x2,0/then=2,0,0/cost=1/if=1,x2,x3/then=2,x3,x2/cost=1/if=2,0,0/then=3,1,1/",
     "positions=4/sizes=3,2,3,2/rules=2/cost=0/if=x1,x2,x1,x2/then=0,1,x1,x2/cost=7/if=x1,1,x1,x4/then=x1,x4,x1,0/",
-    "positions=1/sizes=4/rules=5/cost=1/if=0/then=1/cost=2/if=0/then=2/cost=3/if=1/then=2/cost=4/if=1/then=1/cost=5/if=x1/then=1/",
+    // a byte makes two rules equal: in `then`, in `cost`, in `if`, an `x` put in
+    "positions=1/sizes=4/rules=5/cost=2/if=0/then=2/cost=2/if=0/then=3/cost=3/if=0/then=3/cost=2/if=1/then=2/cost=2/if=x1/then=2/",
     "positions=12/sizes=2,2,2,2,2,2,2,2,2,2,2,2/rules=1/cost=20/if=x1,x1,x3,x3,0,1,x7,x8,x9,x10,x10,x12/then=x10,x1,x12,x3,0,1,x7,x8,x10,0,x12,x1/",
     "positions=16/sizes=16,16,16,16,16,16,16,16,16,16,16,16,16,16,16,2/rules=1/cost=9/if=x1,x2,x3,x4,x5,x6,x7,x8,x9,x10,x11,x12,x13,x14,x15,1/then=x15,x14,x13,x12,x11,x10,x9,x8,x7,x6,x5,x4,x3,x2,15,0/",
 ];
