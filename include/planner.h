@@ -21,8 +21,8 @@ extern "C" {
 #endif
 
 /* The version of this header and of the library that it declares. The first number is raised when an entry changes,
- * the second when something is added: a program may refuse to be compiled with a header that it was not written for,
- * by #if PLANNER_VERSION_MAJOR != 2.
+ * the second when something is added or more is accepted: a program may refuse to be compiled with a header that it was
+ * not written for, by #if PLANNER_VERSION_MAJOR != 2.
  * Since 2.1 two rules may have equal if and then lines where their costs differ: such a file, which got 4, is read.
  * Since 2.0 planner_build_table and planner_check_table give a packed answer: a program that was written for 1.0 has
  * to compare planner_outcome of it, for an accepted table can have other bits set; and a macro has 38 bytes, not 34. */
@@ -127,8 +127,8 @@ uint64_t planner_table_size(const uint8_t *rules, size_t rules_length, size_t re
 /* Builds the pruning table of a rule file for this reach.
  * Takes a buffer for the table, of exactly the bytes that planner_table_size says.
  * Outcomes, in this order: 1 to 4, 5, 6, 0. With outcome 0 the buffer holds the table, which is accepted, else
- * zeros. Of two rules with equal if and then lines it marks the later one if that is the dearer; if it is the cheaper,
- * neither because of the other.
+ * zeros. Of two rules with equal if and then lines the table marks the later one if it is the dearer; if it is the
+ * cheaper, neither because of the other.
  * The answer packs the outcome, in the low byte, and the positions that the table's marked sequences read, in bits 16
  * to 31, and write, in bits 32 to 47; its other bits are 0. planner_outcome, planner_reads and planner_writes take it
  * apart. A position is in a set exactly if some marked sequence reads, or writes, it: a marked sequence that no state

@@ -22,14 +22,17 @@ pub fn damaged(random: &mut Random, text: &[u8]) -> Vec<u8> {
     }
 }
 
-/// The file with the `if` and `then` lines of one rule in the place of another's, if it has two; most often with the same cost as well.
+/// The file with the `if` and `then` lines of one rule in the place of another's, if it has two; most often with its cost as well.
 fn with_same_lines(random: &mut Random, text: &[u8]) -> Vec<u8> {
     let mut lines: Vec<&[u8]> = text.split(|&byte| byte == b'\n').collect();
-    let costs: Vec<usize> = (0..lines.len()).filter(|&line| lines[line].starts_with(b"cost=")).collect();
-    let (one, other) = (random.pick(&costs), random.pick(&costs));
-    (lines[other + 1], lines[other + 2]) = (lines[one + 1], lines[one + 2]);
-    if random.chance(60) {
-        lines[other] = lines[one];
+    let mut costs: Vec<usize> = (0..lines.len()).filter(|&line| lines[line].starts_with(b"cost=")).collect();
+    if costs.len() > 1 {
+        let one = costs.swap_remove(random.below(costs.len()));
+        let other = random.pick(&costs);
+        (lines[other + 1], lines[other + 2]) = (lines[one + 1], lines[one + 2]);
+        if random.chance(60) {
+            lines[other] = lines[one];
+        }
     }
     lines.join(&b'\n')
 }

@@ -19,10 +19,10 @@ pub struct Seen {
     /// sets in which a sequence is redundant only with a later one, and in which it does the same as an earlier, dearer one
     pub kept_for_later: u64,
     pub kept_for_cost: u64,
-    /// tables built: of a set in which two rules have the same lines, the later one dearer, and marked with the earlier one; the later one cheaper, and both kept
+    /// tables in which of two rules with the same lines the later one is dearer and marked with the earlier one, or cheaper and both are kept
     pub dearer_marked: u64,
     pub cheaper_kept: u64,
-    /// damaged texts that are read, though two rules have the same lines
+    /// texts by whose damage two rules have the same lines, and which are read
     pub same_lines_read: u64,
     /// queries not refused: in which marks prune sequences, or a cheapest plan; with a plan of two moves or more, or by way of a costless rule
     pub queries_pruned: u64,
@@ -73,10 +73,12 @@ impl Seen {
     pub fn table(&mut self, set: &Set, redundancy: &Redundancy, reach: usize, entries: &[u16], closely: bool) {
         self.tables_with_marks += u64::from(entries.iter().any(|&entry| entry != KEPT));
         self.marks_by_rules += u64::from(entries.iter().any(|&entry| entry != KEPT && entry != 0));
-        let kept = |number: u8| entries[number as usize] == KEPT;
-        let same_lines = set.same_lines();
-        self.dearer_marked += u64::from(same_lines.iter().any(|&(earlier, later)| entries[later as usize] == u16::from(earlier)));
-        self.cheaper_kept += u64::from(same_lines.iter().any(|&(earlier, later)| kept(earlier) && kept(later)));
+        let entry = |number: u8| entries[number as usize];
+        let dearer = |one: u8, other: u8| set.rule(one).cost > set.rule(other).cost;
+        let marked = |&(earlier, later): &(u8, u8)| dearer(later, earlier) && entry(later) == u16::from(earlier);
+        let both_kept = |&(earlier, later): &(u8, u8)| dearer(earlier, later) && entry(earlier) == KEPT && entry(later) == KEPT;
+        self.dearer_marked += u64::from(set.same_lines().iter().any(marked));
+        self.cheaper_kept += u64::from(set.same_lines().iter().any(both_kept));
         if !closely {
             return;
         }

@@ -1,5 +1,5 @@
-//! The oracle against itself: its two ways to redundancy, to the positions that a sequence reads and writes, to the plan and to the steps agree, and a macro does
-//! what its rules do in every state.
+//! The oracle against itself: its two ways to redundancy, to the positions that a sequence reads and writes, to the plan and to the steps agree, a macro does what
+//! its rules do in every state, and of two rules with the same lines the later one may be marked with the earlier exactly if it is dearer.
 
 use planner_tests::calls::Query;
 use planner_tests::draw;
@@ -8,7 +8,7 @@ use planner_tests::oracle::redundancy::Redundancy;
 use planner_tests::oracle::search::{all_within, plan_among, plan_by_states, steps_among, steps_up_to};
 use planner_tests::oracle::sequences::{count, index, sequences};
 use planner_tests::oracle::symbolic::Run;
-use planner_tests::oracle::table::{accepted, built};
+use planner_tests::oracle::table::{accepted, built, KEPT};
 use planner_tests::oracle::touched::Touched;
 use planner_tests::oracle::{file, writer};
 use planner_tests::random::{seed, Random};
@@ -72,7 +72,7 @@ fn both_ways_to_redundancy_agree() {
 }
 
 #[test]
-fn the_dearer_of_two_rules_with_the_same_lines_is_marked_if_it_stands_later() {
+fn of_two_rules_with_the_same_lines_the_later_one_is_marked_if_it_is_dearer() {
     // pairs of rules with the same lines: the later one dearer, the later one cheaper
     let mut met = [0; 2];
     drawn("same lines", 1500, 200, 8, |random, set| {
@@ -83,9 +83,10 @@ fn the_dearer_of_two_rules_with_the_same_lines_is_marked_if_it_stands_later() {
             let dearer_later = set.rule(earlier).cost < set.rule(later).cost;
             met[usize::from(!dearer_later)] += 1;
             let (earlier, later) = (earlier as usize, later as usize);
-            assert_eq!(redundancy.redundant(later, earlier), dearer_later, "{set:?} {earlier} {later}");
-            assert!(if dearer_later { table[later] as usize <= earlier } else { table[later] as usize != earlier }, "{set:?} {earlier} {later}");
-            assert_ne!(table[earlier] as usize, later, "{set:?} {earlier} {later}");
+            let marked = |index: usize, witness: usize| (0..table.len()).map(|at| if at == index { witness as u16 } else { KEPT }).collect::<Vec<_>>();
+            assert_eq!(accepted(&redundancy, &marked(later, earlier)), dearer_later, "{set:?} {earlier} {later}");
+            assert!(!accepted(&redundancy, &marked(earlier, later)), "{set:?} {earlier} {later}");
+            assert!(!dearer_later || table[later] as usize <= earlier, "{set:?} {earlier} {later}");
         }
     });
     assert!(met.iter().all(|&count| count >= 100), "too few: {met:?}");

@@ -112,7 +112,8 @@ impl Run {
         for _ in 0..6 {
             let text = damage::damaged(&mut self.random, drawn.text);
             compare(&Call::Read { text: text.clone() }, &mut self.tally);
-            self.seen.same_lines_read += u64::from(text != drawn.text && file::read(&text).is_ok_and(|set| !set.same_lines().is_empty()));
+            let brought = drawn.set.same_lines().is_empty() && file::read(&text).is_ok_and(|set| !set.same_lines().is_empty());
+            self.seen.same_lines_read += u64::from(brought);
             let length = self.random.pick(&[0, 1, 38, 400, text.len()]);
             let (rules, reach) = (text.clone(), self.random.from_to(0, 2));
             let call = match self.random.below(6) {

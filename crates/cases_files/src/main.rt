@@ -7,7 +7,7 @@
 // - `c` read every front part of the text, from the empty one to the whole: the outcomes, a digit each
 // - `w` read the text and write its set into five buffers: of no byte, one byte shorter than the text, as long, one
 //   byte longer, and of 65,536 bytes: outcome and length of each, and what the buffer then holds
-// - `s` read the text, spoil the set in each of some ways and write it: the outcomes, a digit each
+// - `s` read the text, change the set in each of some ways and write it: the outcomes, a digit each
 // The answers that `stdout` holds were written by hand from documents 01 and 02.
 use bytes::scan::find;
 use libc::STDIN_FILENO;
@@ -239,7 +239,8 @@ fn print_set(text: &[u8]) {
     }
 }
 
-// The set with one part of it spoiled, in one of twelve ways; in any other way the set itself.
+// The set with one part of it spoiled, in one of twelve ways; in the thirteenth with the first rule's lines at cost 9
+// as its second rule, which spoils nothing; in any other way the set itself.
 fn spoiled(set: RuleSet, way: u8) -> RuleSet {
     let mut other = set;
     let mut sizes = set.sizes;
@@ -289,6 +290,11 @@ fn spoiled(set: RuleSet, way: u8) -> RuleSet {
         rules[1] = first;
         other.count = 2;
     }
+    if way == 12 {
+        first.cost = 9;
+        rules[1] = first;
+        other.count = 2;
+    }
     other.sizes = sizes;
     other.rules = rules;
     other
@@ -301,10 +307,10 @@ fn print_write_outcome(set: RuleSet) {
     print_byte(written.outcome);
 }
 
-// The outcomes of writing the set of a text, spoiled in each way and at last as it is.
+// The outcomes of writing the set of a text, changed in each way and at last as it is.
 fn print_spoiled(text: &[u8]) {
     let reading = reader::read(text);
-    for way in 0..13u8 {
+    for way in 0..14u8 {
         print_write_outcome(spoiled(reading.set, way));
     }
 }

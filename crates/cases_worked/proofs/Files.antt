@@ -107,7 +107,8 @@ rows =
     ∷ record { text = twice "1" "1"; outcome = 4 }
     ∷ record { text = twice "1" "1" ++ bytes "\n"; outcome = 1 }
     ∷ record { text = bytes "positions=1\nsizes=2\nrules=2\ncost=1\nif=0\nthen=1\ncost=1\nif=0\nthen=1"; outcome = 1 }
-    -- equal lines at other costs (document 02, request 2026-02), by whatever digit, and bytes left over; cost 0
+    -- equal lines at other costs (document 02, request 2026-02), by whatever digit, and bytes left over; then at equal
+    -- costs, the least and the most
     ∷ record { text = twice "1" "2"; outcome = 0 }
     ∷ record { text = twice "2" "1"; outcome = 0 }
     ∷ record { text = twice "0" "255"; outcome = 0 }

@@ -240,6 +240,12 @@ dearerLater = reading (likeFirst "1" "2") .set
 abbrev dearerFirst : RuleSet
 dearerFirst = reading (likeFirst "2" "1") .set
 
+-- three rules with the same lines, the last of which the first serves and, cheaper, the second
+abbrev three : RuleSet
+three =
+    ruleSet
+    "positions=1\nsizes=2\nrules=3\ncost=2\nif=0\nthen=1\ncost=1\nif=0\nthen=1\ncost=3\nif=0\nthen=1\n"
+
 -- two idle rules, the dearer one first
 abbrev idle : RuleSet
 idle = ruleSet "positions=1\nsizes=2\nrules=2\ncost=2\nif=0\nthen=0\ncost=1\nif=0\nthen=0\n"
@@ -253,9 +259,12 @@ sameLines =
     ∷ record { asked = build dearerFirst 1 8; expected = builds (answer 0 0 0) (replicate 8 255) }
     ∷ record { asked = check dearerFirst 1 (keptBytes ++ markBytes 3 ++ replicate 4 255); expected = rejects 14 }
     ∷ record { asked = check dearerFirst 1 (replicate 6 255 ++ markBytes 1); expected = rejects 14 }
-    -- for another reason both are marked
+    -- Wrong: (3) is marked with (2), the cheapest or the nearest; a check takes that too
+    ∷ record { asked = build three 1 8; expected = builds (answer 0 1 1) (replicate 6 255 ++ markBytes 1) }
+    ∷ record { asked = check three 1 (replicate 6 255 ++ markBytes 2); expected = accepts 1 1 }
+    -- Wrong: neither is marked, as the later one is the cheaper. They are idle, and have the empty witness
     ∷ record { asked = build idle 1 6; expected = builds (answer 0 1 0) (keptBytes ++ markBytes 0 ++ markBytes 0) }
-    -- at reach 2, by index: all but the empty one, (1), (2) and (1,2)
+    -- all are marked but the empty one, (1), (2) and (1,2). Wrong: (3) is kept at reach 2, as its witness is one rule
     ∷ record {
       asked =
           build dearerLater 2 26;
@@ -263,7 +272,7 @@ sameLines =
           (replicate 6 255 ++ markBytes 1 ++ markBytes 1 ++ keptBytes ++ markBytes 1 ++ markBytes 5 ++ markBytes 2
           ++ markBytes 5 ++ markBytes 1 ++ markBytes 5 ++ markBytes 1);
     }
-    -- (2,3), of cost 2, is kept: (1,2) and (2,1) cost 3
+    -- (2,3), of cost 2, is kept: (1,2) and (2,1) cost 3. Wrong: it is marked with (1,2), as (1) and (3) do the same
     ∷ record {
       asked =
           build dearerFirst 2 26;

@@ -1,4 +1,4 @@
-// Whether a set has duplicates (document 01: twins): two rules with equal costs, equal conditions and equal effects.
+// Whether a set has duplicates (documents 01 and 02: twins): two rules with equal costs, conditions and effects.
 use model_spec::MAX_RULES;
 use model_spec::RULE_PLACES;
 use model_spec::Rule;
@@ -9,7 +9,7 @@ ghost use Prim.Native.Nat.{min, _<_};
 ghost use Rattle.model_spec.specs.Limits.{maxRules};
 ghost use Rattle.model_spec.specs.Validity.{duplicate, repeated, hasDuplicates};
 
-// Whether two rules are duplicates: equal costs, equal conditions and equal effects.
+// Whether two rules are duplicates.
 fn duplicate(a: Rule, b: Rule) -> bool
     ensures { λ r. ⌜ r ≡ duplicate a b ⌝ }
 {

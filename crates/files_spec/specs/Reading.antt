@@ -189,7 +189,7 @@ Readable set = (text : List ℕ) × ReadAs text set
 abbrev pub Faultless : List ℕ → Type 0
 Faultless text = (set : RuleSet) × Valid set × (text ≡ render set)
 
--- its only fault is that rules are duplicates (document 01: twins), outcome 4
+-- its only fault is that rules are duplicates (documents 01 and 02: twins), outcome 4
 abbrev pub OnlyDuplicates : List ℕ → Type 0
 OnlyDuplicates text =
     (set : RuleSet) × (wellFormed set ≡ true)

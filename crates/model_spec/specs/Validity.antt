@@ -88,8 +88,8 @@ ruleValidAt set k =
 unfoldable pub rulesValid : RuleSet → Bool
 rulesValid set = eqb (length (set .rules)) maxRules && every (ruleValidAt set) (numbersFrom 0 maxRules)
 
--- two rules are duplicates (document 01: twins): equal conditions and equal effects, and equal costs too (document 02,
--- request 2026-02)
+-- two rules are duplicates (document 01: twins): equal conditions, equal effects, and (document 02, request 2026-02)
+-- equal costs too
 unfoldable pub duplicate : Rule → Rule → Bool
 duplicate a b =
     eqb (a .cost) (b .cost)
@@ -147,11 +147,11 @@ pub record WellFormed (set : RuleSet) : Type 0 where
       LinesValid (set .positions) (set .sizes) (rule .condition) (rule .effect))
   pub rulesBeyond : (k : ℕ) → set .count ≤ k → k < maxRules → getD (set .rules) k noRule ≡ blankRule
 
--- two rules have the same lines (document 02: they do the same shunt): equal conditions and equal effects
+-- two rules have the same lines (document 02: they do the same shunt): equal conditions and equal effects, at any costs
 abbrev pub SameLines : Rule → Rule → Type 0
 SameLines a b = (a .condition ≡ b .condition) × (a .effect ≡ b .effect)
 
--- two rules are duplicates (document 01: twins)
+-- two rules are duplicates (documents 01 and 02: twins)
 abbrev pub Duplicate : Rule → Rule → Type 0
 Duplicate a b = (a .cost ≡ b .cost) × SameLines a b
 

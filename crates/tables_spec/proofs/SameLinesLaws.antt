@@ -13,9 +13,10 @@ use Rattle.model_spec.specs.States.{State, applicable, successor}
 use Rattle.model_spec.specs.Rules.{ruleAt, stepOf, ruleCost, RedundantIn}
 use Rattle.model_spec.specs.Validity.{SameLines}
 use Rattle.model_spec.specs.declared.RuleSet.{RuleSet}
-use Rattle.tables_spec.specs.Table.{tableEntries, sequenceAt, entryAt, builtEntry, builtTable, Prunable, Accepted}
+use Rattle.tables_spec.specs.Table.{tableEntries, sequenceAt, entryAt, builtEntry, builtTable, Prunable}
+use Rattle.tables_spec.specs.Table.{MarkJustified, Accepted}
 use Rattle.tables_spec.specs.Answers.{ReachLimits}
-use Rattle.tables_spec.specs.SameLines.{RepeatsLines, SameLinesMeaning}
+use Rattle.tables_spec.specs.SameLines.{SameLinesLater, SameLinesMarks}
 use Rattle.tables_spec.proofs.CountLaws.{count-sequences}
 use Rattle.tables_spec.proofs.TableLaws.{marked-iff, built-entry, built-least, built-mark-iff, built-marks-iff}
 
@@ -45,8 +46,8 @@ same-lines-iff set a b lines = (
   ),
 )
 
--- at every reach the later one is prunable if it costs no less
-pub later-prunable : (set : RuleSet) (reach a b : ℕ) → 1 ≤ reach → RepeatsLines set a b
+-- at every reach from 1 on the later one is prunable if it costs no less
+pub later-prunable : (set : RuleSet) (reach a b : ℕ) → 1 ≤ reach → SameLinesLater set a b
     → ruleCost set a ≤ ruleCost set b → Prunable set reach (b ∷ [])
 later-prunable set reach a b n w h =
     record {
@@ -61,7 +62,7 @@ later-prunable set reach a b n w h =
     }
 
 module _ (set : RuleSet) (reach : ℕ) (rules : set .count ≤ 31) (near : ReachLimits reach) where
-  module _ (a b : ℕ) (w : RepeatsLines set a b) where
+  module _ (a b : ℕ) (w : SameLinesLater set a b) where
     at-a : (a < tableEntries set reach) × (sequenceAt set reach a ≡ a ∷ [])
     at-a = rule-index set reach a (near .0) (w .0) (omega (arith, w .1, w .2))
 
@@ -76,32 +77,41 @@ module _ (set : RuleSet) (reach : ℕ) (rules : set .count ≤ 31) (near : Reach
           λ h. subst₂ (RedundantIn set) (sym (at-b .1)) (sym (at-a .1)) (iff .1 h),
         )
 
-    least : ruleCost set a ≤ ruleCost set b → builtEntry set reach b ≤ a
-    least h =
+    -- the built entry is the earlier one's index, or a smaller one
+    not-after : ruleCost set a ≤ ruleCost set b → builtEntry set reach b ≤ a
+    not-after h =
         let p = subst (Prunable set reach) (sym (at-b .1)) (later-prunable set reach a b (near .0) w h) in
         let m = built-mark-iff set reach rules (near .1) b (at-b .0) .1 p in
         built-least set reach b (at-b .0) m .1 .1 a (by-cost .1 h)
 
+    justified-iff : (table : List ℕ) → entryAt table b ≡ a
+        → MarkJustified set reach table b ↔ (ruleCost set a ≤ ruleCost set b)
+    justified-iff table e = (
+      λ j. by-cost .0 (subst (redundant-at b) e (j .1)),
+      λ h. (omega (arith, w .1), subst (redundant-at b) (sym e) (by-cost .1 h)),
+    )
+      where
+        redundant-at : ℕ → ℕ → Type 0
+        redundant-at i j = RedundantIn set (sequenceAt set reach i) (sequenceAt set reach j)
+
+    -- an accepted table's marks are justified, and name smaller indices
     neither : ruleCost set b < ruleCost set a → (table : List ℕ) → Accepted set reach table
         → (entryAt table b ≢ a) × (entryAt table a ≢ b)
     neither h table v = (
-      λ e. let justified = v .1 b (at-b .0) (omega (arith, w .1, w .2)) in
-          omega (
-            arith,
-            by-cost .0 (subst (λ i. RedundantIn set (sequenceAt set reach b) (sequenceAt set reach i)) e
-                (justified .1)),
-          ),
+      λ e. omega (arith, justified-iff table e .0 (v .1 b (at-b .0) (omega (arith, w .1, w .2)))),
       λ e. omega (arith, w .1, v .1 a (at-a .0) (omega (arith, w .2)) .0),
     )
 
   -- what tables make of two rules with the same lines
-  pub same-lines-meaning : SameLinesMeaning set reach
-  same-lines-meaning =
+  pub same-lines-marks : SameLinesMarks set reach
+  same-lines-marks =
       record {
+        index = λ r h k. rule-index set reach r (near .0) h k .1;
         prunable = λ a b w h. later-prunable set reach a b (near .0) w h;
         marked =
             λ a b w h. marked-iff set reach (builtTable set reach) (b ∷ []) .0
             (built-marks-iff set reach rules (near .1) (b ∷ []) .1 (later-prunable set reach a b (near .0) w h));
-        witness = λ a b w h. omega (arith, built-entry set reach b (at-b a b w .0), least a b w h);
-        cheaperLater = neither;
+        witness = λ a b w h. omega (arith, built-entry set reach b (at-b a b w .0), not-after a b w h);
+        justified = justified-iff;
+        cheaperLater = λ a b w h. neither a b w h;
       }
