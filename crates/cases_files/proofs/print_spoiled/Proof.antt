@@ -9,7 +9,7 @@ abbrev Inv-loop : tie.InvT-loop
 Inv-loop text reading way₀ way = Unit {0}
 
 abbrev μ-loop : tie.MeasureT-loop
-μ-loop text reading way₀ way = 13 - way
+μ-loop text reading way₀ way = 14 - way
 
 read-requires : tie.Need-read-requires Inv-loop μ-loop
 read-requires c κs = search needs
