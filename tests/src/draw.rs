@@ -153,6 +153,10 @@ pub fn rule_set(random: &mut Random, states: usize, most_rules: usize) -> Set {
     for _ in 0..4 * number {
         let cost = cost(random, way, set.rules.len());
         let rule = rule(random, kinds, &set.sizes, &set.rules, cost);
+        // few have the lines of an earlier one: in small sizes most would
+        if set.rules.iter().any(|earlier| rule.has_lines_of(earlier)) && random.chance(80) {
+            continue;
+        }
         set.rules.push(rule);
         if read(&write(&set)).is_err() {
             set.rules.pop();
