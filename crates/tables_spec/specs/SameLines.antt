@@ -12,7 +12,7 @@ use Rattle.tables_spec.specs.Table.{sequenceAt, entryAt, builtTable, Mar
 abbrev pub SameLinesLater : RuleSet → ℕ → ℕ → Type 0
 SameLinesLater set a b = (1 ≤ a) × (a < b) × (b ≤ set .count) × SameLines (ruleAt set a) (ruleAt set b)
 
--- for at most 31 rules and a reach of 1 to 3 (`same-lines-marks`). A rule's number is the index of its sequence of one
+-- of at most 31 rules at a reach of 1 to 3 (`same-lines-marks`). A rule's number is the index of its sequence of one
 -- rule. If the later of two rules with the same lines costs no less, it is prunable (document 01: needless) as a
 -- sequence of one rule: the built table marks it, with the earlier one or with a smaller index that will do. A mark of
 -- it with the earlier one is justified exactly then. If it costs less, no accepted table marks one of the two with the
