@@ -36,11 +36,11 @@ many n =
     (numbersFrom 0 n)
 
 -- a rule that makes 1 of 0, at a cost; a file of it at two costs
-abbrev shunt : String → List ℕ
-shunt cost = bytes "cost=" ++ bytes cost ++ bytes "\nif=0\nthen=1\n"
+abbrev toOne : String → List ℕ
+toOne cost = bytes "cost=" ++ bytes cost ++ bytes "\nif=0\nthen=1\n"
 
 abbrev twice : String → String → List ℕ
-twice first second = bytes "positions=1\nsizes=2\nrules=2\n" ++ shunt first ++ shunt second
+twice first second = bytes "positions=1\nsizes=2\nrules=2\n" ++ toOne first ++ toOne second
 
 -- E with a third rule like its first, these two at the costs given
 abbrev pub likeFirst : String → String → List ℕ
@@ -119,7 +119,7 @@ rows =
     ∷ record { text = twice "255" "255"; outcome = 4 }
     -- two of three are equal in all; E with a third rule like its first, at cost 1, at cost 2, and the dearer one first
     ∷ record {
-      text = bytes "positions=1\nsizes=2\nrules=3\n" ++ shunt "1" ++ shunt "2" ++ shunt "1";
+      text = bytes "positions=1\nsizes=2\nrules=3\n" ++ toOne "1" ++ toOne "2" ++ toOne "1";
       outcome = 4;
     }
     ∷ record { text = likeFirst "1" "1"; outcome = 4 }

@@ -21,7 +21,7 @@ use Rattle.theory_spec.specs.how.Recursion.{last, suffixes, shortSuffixes}
 use Rattle.theory_spec.proofs.ListLaws.{zeros-at, in-getD}
 use Rattle.theory_spec.proofs.TestLaws.{below?}
 use Rattle.theory_spec.proofs.SequenceLaws.{numbered-right, of-sequences}
-use Rattle.theory_spec.proofs.IndexLaws.{index-snoc, index-at, sequence-at, index-of-place}
+use Rattle.theory_spec.proofs.IndexLaws.{index-one, index-snoc, index-at, sequence-at, index-of-place}
 use Rattle.model_spec.specs.declared.RuleSet.{RuleSet}
 use Rattle.tables_spec.specs.Table.{sequenceCount, tableEntries, kept, entryAt, marked}
 use Rattle.tables_spec.proofs.CountLaws.{count-sequences, count-next}
@@ -129,10 +129,6 @@ look-up-marks set reach table blocked near size looks q k =
         omega (arith, inside, near-inside, count-sequences m reach, count-sequences m 3, size)
 
 -- ── A sequence without its first rule ────────────────────────────────────────────────────────────
-
--- the index of one rule is its number
-index-one : (m r : ℕ) → indexOf m (r ∷ []) ≡ r
-index-one m r = omega arith
 
 -- of one rule, none is left
 pub tail-none : (m i : ℕ) → 1 ≤ i → (i - 1) / m ≡ 0 → (0 ≡ indexOf m (drop 1 (sequenceOf m 3 i))) × (0 < i)

@@ -4,11 +4,11 @@ use mathlib.Core.Path.{_≡_, refl, ap, ap₂, sym, _∙_, subst, subst₂}
 use mathlib.Core.Logic.{_↔_, inl, inr, _≢_}
 use mathlib.Core.Option.{Option}
 use mathlib.Core.List.{List, [], _∷_}
-use Prim.Native.Nat.{ℕ, _+_, _*_, _≤_, _<_}
+use Prim.Native.Nat.{ℕ, _≤_, _<_}
 use native.Mathlib.Omega.{arith}
 use Rattle.theory_spec.specs.Lists.{onlyIf}
 use Rattle.theory_spec.specs.Sequences.{andThen, run}
-use Rattle.theory_spec.proofs.IndexLaws.{index-at}
+use Rattle.theory_spec.proofs.IndexLaws.{index-one, index-at}
 use Rattle.model_spec.specs.States.{State, applicable, successor}
 use Rattle.model_spec.specs.Rules.{ruleAt, stepOf, ruleCost, RedundantIn}
 use Rattle.model_spec.specs.Validity.{SameLines}
@@ -25,9 +25,10 @@ pub rule-index : (set : RuleSet) (reach r : ℕ) → 1 ≤ reach → 1 ≤ r →
     × (sequenceAt set reach r ≡ r ∷ [])
 unfolding tableEntries sequenceAt
 rule-index set reach r n h k =
-    let w = index-at (set .count) reach (r ∷ []) n (h, k, tt) in
-    let e : 0 * set .count + r ≡ r = omega arith in
-    (omega (arith, w .0, count-sequences (set .count) reach), ap (λ i. sequenceAt set reach i) (sym e) ∙ w .1)
+    let w = index-at (set .count) reach (r ∷ []) n (h, k, tt) in (
+      omega (arith, w .0, count-sequences (set .count) reach),
+      ap (sequenceAt set reach) (sym (index-one (set .count) r)) ∙ w .1,
+    )
 
 -- two rules with the same lines run in the same states and lead to the same ones
 same-step : (set : RuleSet) (a b : ℕ) → SameLines (ruleAt set a) (ruleAt set b) → (s : State)

@@ -41,6 +41,10 @@ level-snoc m (suc n) =
 
 -- ── The places of a level are neighbours ─────────────────────────────────────────────────────────
 
+-- the index of one rule is its number
+pub index-one : (m r : ℕ) → indexOf m (r ∷ []) ≡ r
+index-one m r = omega arith
+
 -- the index with one more rule behind the sequence
 pub index-snoc : (m i : ℕ) (q : Sequence) (r : ℕ) → indexFrom m i (q ++ (r ∷ [])) ≡ indexFrom m i q * m + r
 index-snoc m i [] r = refl
