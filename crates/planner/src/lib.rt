@@ -1,4 +1,6 @@
 // The entries that C programs call. All take a rule text; 1 to 4 of the text come before all else.
+mod floor;
+
 use packing::pack;
 use packing::pack_length;
 use packing::pack_table;
@@ -96,7 +98,7 @@ pub extern "C" fn planner_macro(rules: &[u8], moves: &[u8], out: &mut [u8]) -> u
     text_macros::macro_of(rules, moves, out)
 }
 
-// Searches for the cheapest plan of a query; the answer is packed.
+// Searches for the cheapest plan of a query; the answer is packed, but for its floor.
 #[no_mangle]
 pub extern "C" fn planner_search(
     rules: &[u8],
@@ -113,7 +115,8 @@ pub extern "C" fn planner_search(
         (let query = asked reach (now (table .entry)) (now (start .entry)) (now (goal .entry))
         «max_moves» «max_cost» «step_limit» in
         let room = length (now (plan .entry)) in
-        let found : Searched = record { answer = unpacked r; plan = now (plan .exit) } in
+        let floor = searchedText (now (rules .entry)) query room .answer .floor in
+        let found : Searched = record { answer = unpacked floor r; plan = now (plan .exit) } in
         (r ≡ packedSearch (now (rules .entry)) query room)
         × (now (plan .exit) ≡ searchedText (now (rules .entry)) query room .plan)
         × TextSearchMeaning (now (rules .entry)) query room found) ⌝ }

@@ -1,4 +1,4 @@
--- A packed answer can be taken apart: each field stands where document 01 says, wherever the fields fit.
+-- A packed answer can be taken apart: each field but the floor stands where document 01 says, wherever the fields fit.
 -- Assumes nothing.
 use mathlib.Core.Path.{_≡_}
 use Prim.Native.Nat.{_/_, _%_, _<_}
@@ -6,7 +6,7 @@ use native.Mathlib.Omega.{arith}
 use Rattle.search_spec.specs.declared.Answer.{Answer}
 use Rattle.planner_spec.specs.Packed.{packed, unpacked}
 
--- the fields of an answer fit one byte, 16 bits, one byte and 32 bits
+-- the fields of an answer but the floor fit one byte, 16 bits, one byte and 32 bits
 pub record Fits (answer : Answer) : Type 0 where
   pub outcome : answer .outcome < 256
   pub cost : answer .cost < 65536
@@ -30,14 +30,15 @@ module _ (answer : Answer) (fits : Fits answer) where
   unfolding packed
   packed-steps = omega arith
 
-  -- so the number stands for the answer
-  pub unpacked-packed : unpacked (packed answer) ≡ answer
+  -- so the number stands for the answer, beside its floor
+  pub unpacked-packed : unpacked (answer .floor) (packed answer) ≡ answer
   unfolding unpacked
   unpacked-packed = λ i. record {
     outcome = packed-outcome i;
     cost = packed-cost i;
     length = packed-length i;
     steps = packed-steps i;
+    floor = answer .floor;
   }
 
   -- it fits 64 bits

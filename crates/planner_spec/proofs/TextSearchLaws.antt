@@ -37,7 +37,7 @@ search-own set query room =
             omega arith,
             (
               omega arith,
-              (omega arith, (omega arith, (omega arith, (omega arith, (omega arith, tt))))),
+              (omega arith, (omega arith, (omega arith, (omega arith, (omega arith, (omega arith, tt)))))),
             ),
           ),
         ),
@@ -79,14 +79,14 @@ module _ (text : List ℕ) (query : Query) (room : ℕ) where
   -- demand 1: without a plan it blanks the whole plan buffer, refused texts included
   pub entry-blank :
       let found = searchedText text query room in
-      found .answer .outcome ≢ 0
+      found .answer .outcome ≢ 0 → found .answer .outcome ≢ 18
       → (found .answer .cost ≡ 0) × (found .answer .length ≡ 0) × (found .plan ≡ replicate room noMove)
   unfolding textRefused
   entry-blank =
-      by-text (λ found. found .answer .outcome ≢ 0
+      by-text (λ found. found .answer .outcome ≢ 0 → found .answer .outcome ≢ 18
       → (found .answer .cost ≡ 0) × (found .answer .length ≡ 0) × (found .plan ≡ replicate room noMove))
       (searched-blank (reading text .set) query room)
-      (λ _. (refl, refl, refl))
+      (λ _ _. (refl, refl, refl))
 
   -- ── What it means ──────────────────────────────────────────────────────────────────────────────
 
@@ -119,11 +119,22 @@ module _ (text : List ℕ) (query : Query) (room : ℕ) where
       → (r : ℕ) → r ≡ packed (found .answer)
       → (r ≡ packedSearch text query room)
       × (found .plan ≡ searchedText text query room .plan)
-      × TextSearchMeaning text query room (record { answer = unpacked r; plan = found .plan })
+      × TextSearchMeaning text query room
+      (record { answer = unpacked (searchedText text query room .answer .floor) r; plan = found .plan })
   unfolding packedSearch
   search-packed fits found f r e =
       let same = e ∙ ap (λ (x : Searched). packed (x .answer)) (sym f) in
       let plan = ap (λ (x : Searched). x .plan) (sym f) in
-      let answer = ap unpacked same ∙ unpacked-packed (searchedText text query room .answer) (entry-fits fits) in
+      let answer = ap (unpacked (searchedText text query room .answer .floor)) same
+      ∙ unpacked-packed (searchedText text query room .answer) (entry-fits fits) in
       let means = TextSearchMeaning text query room in
       (same, plan, subst means (λ i. record { answer = sym answer i; plan = sym plan i }) text-search-meaning)
+
+  -- the floor alone, and what the buffer holds beside it
+  pub search-floor : (found : Searched) → searchedText text query room ≡ found
+      → (found .answer .floor ≡ searchedText text query room .answer .floor)
+      × (found .plan ≡ searchedText text query room .plan)
+      × TextSearchMeaning text query room (searchedText text query room)
+  search-floor found f =
+      let floor = ap (λ (x : Searched). x .answer .floor) (sym f) in
+      (floor, ap (λ (x : Searched). x .plan) (sym f), text-search-meaning)

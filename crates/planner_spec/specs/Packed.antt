@@ -1,5 +1,5 @@
--- The C entry of the search: it takes the rule text in place of a set, gives the answer as one 64-bit number, and has
--- no tally.
+-- The C entries of the search: they take the rule text in place of a set and have no tally. One gives the answer as one
+-- 64-bit number, the other its floor.
 use mathlib.Core.List.{List}
 use Prim.Native.Nat.{ℕ, _+_, _*_, _/_, _%_}
 use lib.ListN.{replicate}
@@ -12,14 +12,20 @@ use Rattle.planner_spec.specs.OfText.{ofText}
 unfoldable pub packed : Answer → ℕ
 packed answer = answer .outcome + 256 * answer .length + 65536 * answer .cost + 4294967296 * answer .steps
 
--- the answer that such a number stands for: its parts again
-unfoldable pub unpacked : ℕ → Answer
-unpacked n = record { outcome = n % 256; cost = n / 65536 % 65536; length = n / 256 % 256; steps = n / 4294967296 }
+-- the answer that such a number stands for, beside a floor, for which the number has no room: its parts again
+unfoldable pub unpacked : ℕ → ℕ → Answer
+unpacked floor n = record {
+  outcome = n % 256;
+  cost = n / 65536 % 65536;
+  length = n / 256 % 256;
+  steps = n / 4294967296;
+  floor = floor;
+}
 
--- what a refused rule text leaves: its outcome, no cost, no length, no steps, and a blank plan buffer
+-- what a refused rule text leaves: its outcome, no cost, no length, no steps, no floor, and a blank plan buffer
 unfoldable pub textRefused : ℕ → ℕ → Searched
 textRefused outcome room = record {
-  answer = record { outcome = outcome; cost = 0; length = 0; steps = 0 };
+  answer = record { outcome = outcome; cost = 0; length = 0; steps = 0; floor = 0 };
   plan = replicate room noMove;
 }
 
@@ -27,6 +33,6 @@ textRefused outcome room = record {
 unfoldable pub searchedText : List ℕ → Query → ℕ → Searched
 searchedText text query room = ofText text (λ set. searched set query room) (λ n. textRefused n room)
 
--- the number that the entry gives
+-- the number that the first entry gives
 unfoldable pub packedSearch : List ℕ → Query → ℕ → ℕ
 packedSearch text query room = packed (searchedText text query room .answer)

@@ -1,4 +1,5 @@
-// The search (document 01: the walk): the cheapest plan of a query, or why there is none.
+// The search (document 01: the walk): the cheapest plan of a query, or why there is none; over its step limit the
+// cheapest of the plans met, if any, and a floor.
 use buffers::fill_from;
 use model_spec::MOVE_LIMIT;
 use model_spec::RuleSet;
@@ -13,17 +14,48 @@ ghost use Rattle.model_spec.specs.Limits.{moveLimit};
 ghost use Rattle.search_spec.specs.Query.{asked};
 ghost use Rattle.search_spec.specs.Searched.{Searched, searched, SearchMeaning};
 ghost use Rattle.search_spec.specs.PlanPart.{PartMeaning};
+ghost use Rattle.search_laws.specs.how.Visits.{outcomeOf, floorShown};
 
 // An answer without a plan.
 fn without_plan(outcome: u8, steps: u32) -> Answer
-    ensures { λ r. ⌜ r ≡ record { outcome = outcome; cost = 0; length = 0; steps = steps } ⌝ }
+    ensures { λ r. ⌜ r ≡ record { outcome = outcome; cost = 0; length = 0; steps = steps; floor = 0 } ⌝ }
 {
     Answer {
         outcome,
         cost: 0,
         length: 0,
         steps,
+        floor: 0,
     }
+}
+
+// The outcome of a query that is not refused, by whether its limit is exceeded and whether a plan is found.
+fn outcome_of(exceeded: bool, found: bool) -> u8
+    ensures { λ r. ⌜ r ≡ outcomeOf exceeded found ⌝ }
+{
+    if exceeded {
+        if found {
+            return 18;
+        }
+        return 16;
+    }
+    if !found {
+        return 15;
+    }
+    0
+}
+
+// The floor shown beside a plan: over the limit the lower of the plan's cost and the least cost met beyond it; else 0.
+fn floor_shown(exceeded: bool, cost: u16, least: u16) -> u16
+    ensures { λ r. ⌜ r ≡ floorShown exceeded cost least ⌝ }
+{
+    if !exceeded {
+        return 0;
+    }
+    if cost < least {
+        return cost;
+    }
+    least
 }
 
 // Puts the moves of a plan at the front of the buffer.
@@ -40,7 +72,8 @@ fn put_moves(moves: &[u8; MOVE_LIMIT], many: u8, plan: &mut [u8])
     }
 }
 
-// Searches for the cheapest plan of a query, whatever its parts are.
+// Searches for the cheapest plan of a query, whatever its parts are. Over the step limit the plan is the cheapest of
+// those among the first sequences visited, if there is one, and no plan within the bounds costs less than the floor.
 pub fn search(
     set: RuleSet,
     reach: usize,
@@ -77,19 +110,19 @@ pub fn search(
         return without_plan(found.refusal, 0);
     }
     let progress = found.progress;
-    if progress.exceeded {
-        return without_plan(16, progress.steps);
-    }
     let best = progress.best;
+    let outcome = outcome_of(progress.exceeded, best.found);
     if !best.found {
-        return without_plan(15, progress.steps);
+        return without_plan(outcome, progress.steps);
     }
+    let floor = floor_shown(progress.exceeded, best.cost, progress.least);
     let moves = best.moves;
     put_moves(&moves, best.length, plan);
     Answer {
-        outcome: 0,
+        outcome,
         cost: best.cost,
         length: best.length,
         steps: progress.steps,
+        floor,
     }
 }

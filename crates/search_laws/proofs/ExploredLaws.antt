@@ -1,6 +1,6 @@
--- What the search carries along from the empty sequence on, over what it lends to itself, is what document 01's search
--- asks for: the number of visited sequences up to the step limit,
--- and the cheapest plan if the limit is not exceeded.
+-- What the search carries along from the empty sequence on, over what it lends to itself, is what documents 01 and 02
+-- ask for: the number of visited sequences up to the step limit, the best plan of these, which is the cheapest of all
+-- if the limit is not exceeded, and the least cost of the others.
 -- Assumes nothing.
 use mathlib.Core.Path.{_≡_, refl, sym, ap, ap₂, _∙_, subst, fun-ext}
 use mathlib.Core.Logic.{_≢_}
@@ -21,7 +21,7 @@ use Rattle.theory_spec.specs.Plans.{endsIn, reaches}
 use Rattle.theory_spec.specs.how.Recursion.{explore, exploreWith, last, allowedNext, best}
 use Rattle.theory_spec.proofs.ListLaws.{and-join, never-true}
 use Rattle.theory_spec.proofs.VisitLaws.{explore-same, visited-explore-next, explore-fold}
-use Rattle.theory_spec.proofs.PlanLaws.{best-cheapest}
+use Rattle.theory_spec.proofs.PlanLaws.{best-first, best-cheapest}
 use Rattle.model_spec.specs.States.{State, applicable, successor}
 use Rattle.model_spec.specs.Refusals.{firstRefusal}
 use Rattle.model_spec.specs.Rules.{noRule, ruleAt, stepOf, ruleCost, StateOf, sequenceCost}
@@ -30,6 +30,7 @@ use Rattle.model_spec.proofs.ValidityLaws.{valid-closed}
 use Rattle.tables_spec.specs.Table.{marked}
 use Rattle.tables_spec.proofs.TableLaws.{accepted-iff, marked-short, accepted-justified}
 use Rattle.search_spec.specs.Query.{Query, startState, meetsGoal, visitedBy, plansFor}
+use Rattle.search_spec.specs.Looked.{lookedAt, cheapestLooked}
 use Rattle.search_spec.specs.Searched.{queryCauses, NotRefused, WellPosed, cheapestPlan}
 use Rattle.search_spec.proofs.VisitedLaws.{start-fits-iff}
 use Rattle.search_spec.proofs.PlanVisited.{start-state}
@@ -43,6 +44,15 @@ use Rattle.search_laws.specs.declared.Progress.{Progress}
 use Rattle.search_laws.proofs.LookupLaws.{look-up-marks}
 use Rattle.search_laws.proofs.LentLaws.{start-fits}
 use Rattle.search_laws.proofs.ProgressLaws.{notedAs, noted-as, noteOf, fold-progress}
+
+-- the search comes to the cheapest of the plans that are looked at
+pub whole-looked : (set : RuleSet) (query : Query)
+    → wholeProgress set query .best ≡ asBest (sequenceCost set) (cheapestLooked set query)
+unfolding wholeProgress cheapestLooked lookedAt visitedBy plansFor
+whole-looked set query =
+    ap (asBest (sequenceCost set))
+    (best-first (stepOf set) (ruleCost set) (set .count) (marked set (query .reach) (query .table)) (startState query)
+    (meetsGoal (query .goal)) (query .maxMoves) (query .maxCost) (query .stepLimit))
 
 -- the rows that are lent have the rules' steps and costs
 lent-step : (set : RuleSet) → lentStep (map (λ rule. rule .condition) (set .rules))
@@ -80,14 +90,14 @@ module _ (set : RuleSet) (query : Query) (room : ℕ) (notRefused : NotRefused s
       (start-state set query v (start-fits-iff set (query .start) .1 (started .1))) (meetsGoal (query .goal))
       (query .maxMoves) (query .maxCost)
 
-  -- if all are visited, the search comes to it
-  pub whole-best : length (visitedBy set query) ≤ query .stepLimit
-      → wholeProgress set query .best ≡ asBest (sequenceCost set) (cheapestPlan set query)
-  unfolding wholeProgress
-  whole-best h =
-      let all = take-all (query .stepLimit) (visitedBy set query) h in
-      ap (λ l. asBest (sequenceCost set) (best (ruleCost set) good none l)) all
-      ∙ ap (asBest (sequenceCost set)) best-plan
+  -- if all are looked at, the cheapest of the plans among them is the cheapest of all
+  pub looked-cheapest : length (visitedBy set query) ≤ query .stepLimit
+      → cheapestLooked set query ≡ cheapestPlan set query
+  unfolding cheapestLooked lookedAt visitedBy plansFor
+  looked-cheapest h =
+      sym (best-first (stepOf set) (ruleCost set) (set .count) marks (startState query) (meetsGoal (query .goal))
+      (query .maxMoves) (query .maxCost) (query .stepLimit))
+      ∙ ap (best (ruleCost set) good none) (take-all (query .stepLimit) (visitedBy set query) h) ∙ best-plan
 
   module _ (blocked : List ℕ) (looked : LooksUp (min (set .count) 31) (query .table) blocked) where
     looks : LooksUp (set .count) (query .table) blocked

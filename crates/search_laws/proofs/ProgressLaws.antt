@@ -1,6 +1,6 @@
 -- The fold that notes a list of sequences one by one: the steps are their number up to the limit, the limit is exceeded
--- exactly if their number is above it, and if it is not, the best
--- plan is the best of those that pass the test.
+-- exactly if their number is above it, the best plan is the best of the first ones that pass the test, as many as the
+-- limit, and the least cost beyond the limit is that of the others.
 -- Assumes nothing.
 use mathlib.Core.Path.{_≡_, refl, sym, ap, _∙_, subst}
 use mathlib.Core.Bool.{Bool, true, false, cond, _&&_}
@@ -14,7 +14,8 @@ use lib.ListN.{length, take, drop}
 use borrow.Author.Tests.{ltb-true, ltb-false, lt-ltb, le-ltb}
 use Rattle.theory_spec.specs.how.Folds.{foldOver}
 use Rattle.theory_spec.specs.Sequences.{Sequence, costOf}
-use Rattle.theory_spec.specs.how.Recursion.{better, improved, bestAfter, best, leastCost}
+use Rattle.theory_spec.specs.Frontier.{leastCost}
+use Rattle.theory_spec.specs.how.Recursion.{better, improved, bestAfter, best}
 use Rattle.theory_spec.proofs.FloorLaws.{least-min}
 use Rattle.model_spec.specs.States.{State}
 use Rattle.search_spec.specs.Query.{meetsGoal}
@@ -33,9 +34,9 @@ module _ (cost : ℕ → ℕ) (limit : ℕ) where
         steps = p .steps + 1;
         exceeded = false;
         best = bestAs good q (p .best);
-        floor = p .floor;
+        least = p .least;
       })
-      (record { steps = p .steps; exceeded = true; best = p .best; floor = min (p .floor) (costOf cost q) })
+      (record { steps = p .steps; exceeded = true; best = p .best; least = min (p .least) (costOf cost q) })
 
   -- that is what the search notes
   pub noted-as : (goal : List ℕ) (q : Sequence) (s : State) (p : Progress)
@@ -48,9 +49,9 @@ module _ (cost : ℕ → ℕ) (limit : ℕ) where
     abbrev pub noteOf : Sequence → Progress → Progress
     noteOf q = notedAs (good q) q
 
-    -- the progress after n steps, with the best plan c and the floor f
+    -- the progress after n steps, with the best plan c and the least cost f
     abbrev at : ℕ → Option Sequence → ℕ → Progress
-    at n c f = record { steps = n; exceeded = false; best = asBest (costOf cost) c; floor = f }
+    at n c f = record { steps = n; exceeded = false; best = asBest (costOf cost) c; least = f }
 
     -- the best plan after q
     best-next : (q : Sequence) (c : Option Sequence)
@@ -69,28 +70,28 @@ module _ (cost : ℕ → ℕ) (limit : ℕ) where
         go true (some p) = chosen (better cost q p) p
         go false c = refl
 
-    -- once the limit is exceeded only the floor falls, to the least cost of what is met
+    -- once the limit is exceeded only the least cost falls, to that of what is met
     fold-exceeded : (l : List Sequence) (n : ℕ) (b : Best) (f : ℕ) → limit ≤ n
-        → foldOver noteOf (record { steps = n; exceeded = true; best = b; floor = f }) l
-        ≡ record { steps = n; exceeded = true; best = b; floor = leastCost cost f l }
+        → foldOver noteOf (record { steps = n; exceeded = true; best = b; least = f }) l
+        ≡ record { steps = n; exceeded = true; best = b; least = leastCost cost f l }
     fold-exceeded [] n b f h = refl
     fold-exceeded (q ∷ l) n b f h =
         ap (λ t. foldOver noteOf (cond t (record {
           steps = n + 1;
           exceeded = false;
           best = bestAs (good q) q b;
-          floor =
+          least =
               f;
-        }) (record { steps = n; exceeded = true; best = b; floor = min f (costOf cost q) })) l) (le-ltb n limit h)
+        }) (record { steps = n; exceeded = true; best = b; least = min f (costOf cost q) })) l) (le-ltb n limit h)
         ∙ fold-exceeded l n b (min f (costOf cost q)) h
-        ∙ ap (λ g. record { steps = n; exceeded = true; best = b; floor = g }) (least-min cost f (costOf cost q) l)
+        ∙ ap (λ g. record { steps = n; exceeded = true; best = b; least = g }) (least-min cost f (costOf cost q) l)
 
     -- what the progress p is after n steps and the sequences of a list
     abbrev Counts : ℕ → Option Sequence → ℕ → List Sequence → Progress → Type 0
     Counts n c f l p =
         (p .steps ≡ min (n + length l) limit) × (p .exceeded ≡ ltb limit (n + length l))
         × (p .best ≡ asBest (costOf cost) (best cost good c (take (limit - n) l)))
-        × (p .floor ≡ leastCost cost f (drop (limit - n) l))
+        × (p .least ≡ leastCost cost f (drop (limit - n) l))
 
     -- from n steps within the limit, by induction over the list
     fold-counts : (l : List Sequence) (n : ℕ) (c : Option Sequence) (f : ℕ) → n ≤ limit
@@ -113,10 +114,10 @@ module _ (cost : ℕ → ℕ) (limit : ℕ) where
               steps = n + 1;
               exceeded = false;
               best = bestAs (good q) q (asBest (costOf cost) c);
-              floor =
+              least =
                   f;
             })
-            (record { steps = n; exceeded = true; best = asBest (costOf cost) c; floor = min f (costOf cost q) })
+            (record { steps = n; exceeded = true; best = asBest (costOf cost) c; least = min f (costOf cost q) })
 
         go : (b : Bool) → ltb n limit ≡ b → (n + 1 ≤ limit
             → Counts (n + 1) (bestAfter cost good q c) f l (foldOver noteOf (at (n + 1) (bestAfter cost good q c) f) l))
@@ -127,7 +128,7 @@ module _ (cost : ℕ → ℕ) (limit : ℕ) where
             let s : (n + 1) + length l ≡ n + length (q ∷ l) = omega arith in
             let d : limit - n ≡ suc (limit - (n + 1)) = omega arith in
             subst (λ (b : Best). Counts n c f (q ∷ l)
-            (foldOver noteOf (record { steps = n + 1; exceeded = false; best = b; floor = f }) l))
+            (foldOver noteOf (record { steps = n + 1; exceeded = false; best = b; least = f }) l))
             (sym (best-next q c)) (
               w .0 ∙ ap (λ m. min m limit) s,
               w .1 ∙ ap (ltb limit) s,
@@ -153,7 +154,7 @@ module _ (cost : ℕ → ℕ) (limit : ℕ) where
           steps = min (length l) limit;
           exceeded = ltb limit (length l);
           best = asBest (costOf cost) (best cost good none (take limit l));
-          floor = leastCost cost 65535 (drop limit l);
+          least = leastCost cost 65535 (drop limit l);
         }
     unfolding noProgress asBest
     fold-progress l =
@@ -163,5 +164,5 @@ module _ (cost : ℕ → ℕ) (limit : ℕ) where
         let steps = w .0 ∙ ap (λ n. min n limit) s in
         let exceeded = w .1 ∙ ap (ltb limit) s in
         let taken = w .2 ∙ ap (λ n. asBest (costOf cost) (best cost good none (take n l))) d in
-        let floor = w .3 ∙ ap (λ n. leastCost cost 65535 (drop n l)) d in
-        λ i. record { steps = steps i; exceeded = exceeded i; best = taken i; floor = floor i }
+        let least = w .3 ∙ ap (λ n. leastCost cost 65535 (drop n l)) d in
+        λ i. record { steps = steps i; exceeded = exceeded i; best = taken i; least = least i }

@@ -63,9 +63,10 @@ goes-cheap total most room b a goes e t h =
     let w = leb-true total most (and-split (leb total most) b (and-split (leb total most && b) a (sym e ∙ t) .0) .0)
     in omega arith
 
--- the limit is exceeded, and the floor is no higher than a cost: what costs as much or more changes nothing
+-- the limit is exceeded, and the least cost beyond it is no higher than a cost: what costs as much or more changes
+-- nothing
 abbrev Idle : ℕ → ℕ → Progress → Type 0
-Idle limit cost p = (limit ≤ p .steps) × (p .exceeded ≡ true) × (p .floor ≤ cost)
+Idle limit cost p = (limit ≤ p .steps) × (p .exceeded ≡ true) × (p .least ≤ cost)
 
 -- what a sequence makes of the progress within the limit, and beyond it
 abbrev stepped : List ℕ → ℕ → Sequence → State → Progress → Progress
@@ -73,20 +74,20 @@ stepped goal cost q s p = record {
   steps = p .steps + 1;
   exceeded = false;
   best = bestAt goal cost (length q) (padded 32 noMove q) s (p .best);
-  floor = p .floor;
+  least = p .least;
 }
 
 abbrev beyond : ℕ → Progress → Progress
-beyond cost p = record { steps = p .steps; exceeded = true; best = p .best; floor = min (p .floor) cost }
+beyond cost p = record { steps = p .steps; exceeded = true; best = p .best; least = min (p .least) cost }
 
 noted-idle : (goal : List ℕ) (limit cost : ℕ) (q : Sequence) (s : State) (p : Progress) → Idle limit cost p
     → noted goal limit cost q s p ≡ p
 unfolding noted notedMoves
 noted-idle goal limit cost q s p h =
-    let low : min (p .floor) cost ≡ p .floor = let k = h .2 in omega arith in
+    let low : min (p .least) cost ≡ p .least = let k = h .2 in omega arith in
     ap (λ b. cond b (stepped goal cost q s p) (beyond cost p))
     (le-ltb (p .steps) limit (h .0))
-    ∙ (λ i. record { steps = p .steps; exceeded = sym (h .1) i; best = p .best; floor = low i })
+    ∙ (λ i. record { steps = p .steps; exceeded = sym (h .1) i; best = p .best; least = low i })
 
 -- a sequence beyond the limit leaves the progress so
 idle-noted : (goal : List ℕ) (limit cost : ℕ) (q : Sequence) (s : State) (p c : Progress)
@@ -101,7 +102,7 @@ idle-noted goal limit cost q s p c e t = go (ltb (p .steps) limit) refl e
     go false k is =
         let m = ltb-false (p .steps) limit k in
         let a = ap (λ (x : Progress). x .steps) is in
-        let f = ap (λ (x : Progress). x .floor) is in
+        let f = ap (λ (x : Progress). x .least) is in
         (omega arith, t, omega arith)
 
 -- ── The loop over the rules ──────────────────────────────────────────────────────────────────────
@@ -147,7 +148,7 @@ module _ (conditions effects : List (List ℕ)) (costs blocked goal : List ℕ) 
       → Idle (limits .«step_limit») (costOf (lentCost costs) (q ++ (r ∷ []))) c
   idle-next q r c h = let k = h .2 in (h .0, h .1, omega (arith, cost-append (lentCost costs) q (r ∷ [])))
 
-  -- an exceeded progress stays as it is, all through what extends a sequence that costs no less than its floor
+  -- an exceeded progress stays as it is, all through what extends a sequence that costs no less
   visits-idle : (n : ℕ) (q : Sequence) (s : State) (c : Progress)
       → Idle (limits .«step_limit») (costOf (lentCost costs) q) c → visits n q s c ≡ c
   unfolding visitsFrom

@@ -16,7 +16,7 @@ pub struct Progress {
     pub steps: u32,
     pub exceeded: bool,
     pub best: Best,
-    pub floor: u16,
+    pub least: u16,
 }
 
 // What stays the same all through a search: how many positions and rules the set has, the table's reach, the cost bound

@@ -55,8 +55,8 @@ fn lower(a: u16, b: u16) -> u16
 }
 
 // Visits one sequence: the first `depth` moves of the plan, which have led to the state at that cost. At the limit it
-// adds no step, tells that the limit is exceeded, and lowers the floor to the least cost met there (`Progress`, in
-// search_laws). A plan that replaces the best is kept with its whole array.
+// adds no step, tells that the limit is exceeded, and lowers the least cost met beyond it (`Progress`, in search_laws).
+// A plan that replaces the best is kept with its whole array.
 pub fn noted(
     goal: &[u8],
     step_limit: u32,
@@ -73,12 +73,12 @@ pub fn noted(
 {
     let best = progress.best;
     if step_limit <= progress.steps {
-        let floor = lower(progress.floor, cost);
+        let least = lower(progress.least, cost);
         return Progress {
             steps: progress.steps,
             exceeded: true,
             best,
-            floor,
+            least,
         };
     }
     let steps = progress.steps + 1;
@@ -95,7 +95,7 @@ pub fn noted(
                 steps,
                 exceeded: false,
                 best: found,
-                floor: progress.floor,
+                least: progress.least,
             };
         }
     }
@@ -103,6 +103,6 @@ pub fn noted(
         steps,
         exceeded: false,
         best,
-        floor: progress.floor,
+        least: progress.least,
     }
 }

@@ -2,28 +2,27 @@
 -- Assumes nothing.
 use mathlib.Core.Path.{_≡_, refl, sym, ap, _∙_, subst}
 use mathlib.Core.Logic.{_⊎_, inl, inr}
-use mathlib.Core.Bool.{Bool, true, false, not}
+use mathlib.Core.Bool.{Bool, true, false, not, _&&_}
 use mathlib.Core.Option.{Option, some, none}
 use mathlib.Core.List.{List, [], _∷_}
-use mathlib.Core.List.{List·Memᴰ·not-nil}
 use Prim.Native.Nat.{ℕ, suc, _-_, _≤_, _<_}
 use native.Mathlib.Omega.{arith}
-use lib.Dec.{ltb}
+use lib.Dec.{lit≤}
 use lib.ListN.{length, replicate}
 use borrow.Author.Tests.{ltb-true, ltb-false}
-use Rattle.theory_spec.specs.Lists.{_∈_, isSome, padded}
+use Rattle.theory_spec.specs.Lists.{isSome, padded}
 use Rattle.theory_spec.specs.Sequences.{Sequence}
 use Rattle.theory_spec.specs.Plans.{Preferred}
-use Rattle.theory_spec.specs.how.Firsts.{Least}
-use Rattle.theory_spec.proofs.CheapestLaws.{cheapest-none, cheapest-least}
+use Rattle.theory_spec.proofs.CheapestLaws.{cheapest-among, none-among}
 use Rattle.model_spec.specs.Refusals.{Cause, firstRefusal, NonZero}
 use Rattle.model_spec.specs.Rules.{ruleCost, sequenceCost}
 use Rattle.model_spec.specs.declared.RuleSet.{RuleSet}
 use Rattle.model_spec.proofs.RefusalLaws.{no-refusal-iff, refusal-append}
 use Rattle.tables_spec.specs.Answers.{tableCauses}
 use Rattle.search_spec.specs.Query.{Query, visitedBy, plansFor, LeadsToGoal}
+use Rattle.search_spec.specs.Looked.{exceedsLimit, cheapestLooked}
 use Rattle.search_spec.specs.Searched.{queryCauses, cheapestPlan, searchCauses, shownPlan, planOf, noMove}
-use Rattle.search_spec.specs.Searched.{searchedWith, searched, NotRefused, Demand3}
+use Rattle.search_spec.specs.Searched.{Searched, searchedWith, searched, NotRefused, Limited, Demand3}
 use Rattle.search_spec.proofs.VisitedLaws.{visited-iff, visited-once, plans-iff, plans-ordered}
 
 pub query-numbers : (set : RuleSet) (query : Query) (room : ℕ) → NonZero (queryCauses set query room)
@@ -43,14 +42,36 @@ query-numbers set query room =
       ),
     )
 
+-- what a search leaves with a plan, and a floor
+abbrev pub withPlan : RuleSet → ℕ → ℕ → Sequence → ℕ → ℕ → Searched
+withPlan set room outcome p steps floor =
+    record {
+      answer = record {
+        outcome = outcome;
+        cost = sequenceCost set p;
+        length = length p;
+        steps = steps;
+        floor = floor;
+      };
+      plan = padded room noMove p;
+    }
+
+-- and without one
+abbrev pub withoutPlan : ℕ → ℕ → ℕ → Searched
+withoutPlan room outcome steps =
+    record {
+      answer = record { outcome = outcome; cost = 0; length = 0; steps = steps; floor = 0 };
+      plan = replicate room noMove;
+    }
+
 -- a buffer with no plan in it
 pub blank-buffer : (size : ℕ) → padded size noMove [] ≡ replicate size noMove
 blank-buffer size = let e : size - 0 ≡ size = omega arith in ap (λ n. replicate n noMove) e
 
--- what is told of a query that is not refused, if it gives no plan: more sequences to visit than the step limit; no
--- plan
-abbrev pub ends : Bool → Option Sequence → List Cause
-ends above plan = (16, above) ∷ (15, not (isSome plan)) ∷ []
+-- what is told of a query that is not refused, unless it gives the cheapest plan: more sequences to visit than the step
+-- limit, with a plan among those looked at or with none; no plan
+abbrev pub ends : Bool → Option Sequence → Option Sequence → List Cause
+ends above looked plan = (18, above && isSome looked) ∷ (16, above) ∷ (15, not (isSome plan)) ∷ []
 
 module _ (set : RuleSet) (query : Query) where
   abbrev count : ℕ
@@ -60,26 +81,29 @@ module _ (set : RuleSet) (query : Query) where
   pub cheapest-leads : (p : Sequence) → cheapestPlan set query ≡ some p → LeadsToGoal set query p
       × ((q : Sequence) → LeadsToGoal set query q → (q ≡ p) ⊎ Preferred (ruleCost set) p q)
   unfolding cheapestPlan
-  cheapest-leads p e =
-      let least : Least (ruleCost set) (plansFor set query) p =
-      cheapest-least (ruleCost set) (plansFor set query) (plans-ordered set query) p e in
-      (plans-iff set query p .0 (least .0), λ q h. least .1 q (plans-iff set query q .1 h))
+  cheapest-leads =
+      cheapest-among (ruleCost set) (plansFor set query) (plans-ordered set query) (plans-iff set query)
 
   -- where there is no cheapest plan, no sequence leads to the goal
   pub none-leads : cheapestPlan set query ≡ none → (q : Sequence) → LeadsToGoal set query q → ⊥
   unfolding cheapestPlan
-  none-leads e q h =
-      List·Memᴰ·not-nil (subst (λ l. q ∈ l) (cheapest-none (ruleCost set) (plansFor set query) e)
-      (plans-iff set query q .1 h))
+  none-leads = none-among (ruleCost set) (plansFor set query) (plans-ordered set query) (plans-iff set query)
 
-  -- the cheapest plan is the plan shown
+  -- the cheapest plan is the plan shown, and at the limit the cheapest of those looked at
   pub shown-plan : (p : Sequence) → cheapestPlan set query ≡ some p → shownPlan set query 0 ≡ p
   unfolding shownPlan
   shown-plan p e = ap planOf e
 
-  -- the three ways in which a query ends that is not refused, with the outcome of each
-  abbrev Limited : ℕ → Type 0
-  Limited outcome = (query .stepLimit < count) × (outcome ≡ 16)
+  pub shown-looked : (p : Sequence) → cheapestLooked set query ≡ some p → shownPlan set query 18 ≡ p
+  unfolding shownPlan
+  shown-looked p e = ap planOf e
+
+  -- the four ways in which a query ends that is not refused, with the outcome of each
+  abbrev PlanLooked : ℕ → Type 0
+  PlanLooked outcome = (query .stepLimit < count) × (outcome ≡ 18)
+
+  abbrev NoneLooked : ℕ → Type 0
+  NoneLooked outcome = (query .stepLimit < count) × (outcome ≡ 16)
 
   abbrev Unsolvable : ℕ → Type 0
   Unsolvable outcome = (count ≤ query .stepLimit) × (cheapestPlan set query ≡ none) × (outcome ≡ 15)
@@ -92,30 +116,43 @@ module _ (set : RuleSet) (query : Query) where
     outcome = firstRefusal (searchCauses set query room)
 
     module _ (h : firstRefusal (queryCauses set query room) ≡ 0) where
-      begins : outcome ≡ firstRefusal (ends (ltb (query .stepLimit) count) (cheapestPlan set query))
+      begins : outcome
+          ≡ firstRefusal (ends (exceedsLimit set query) (cheapestLooked set query) (cheapestPlan set query))
       unfolding searchCauses
       begins =
-          refusal-append (queryCauses set query room) (ends (ltb (query .stepLimit) count) (cheapestPlan set query))
+          refusal-append (queryCauses set query room)
+          (ends (exceedsLimit set query) (cheapestLooked set query) (cheapestPlan set query))
           (query-numbers set query room) h
 
-      -- a query that is not refused and has more sequences to visit than the limit ends in 16
-      pub limited-outcome : ltb (query .stepLimit) count ≡ true → outcome ≡ 16
-      limited-outcome e = begins ∙ ap (λ b. firstRefusal (ends b (cheapestPlan set query))) e
+      -- where the limit is exceeded, what is looked at decides: 18 with a plan among it, 16 without one
+      pub limited-outcome : exceedsLimit set query ≡ true → (o : Option Sequence) → cheapestLooked set query ≡ o
+          → outcome ≡ firstRefusal (ends true o (cheapestPlan set query))
+      limited-outcome e o k =
+          begins ∙ ap (λ b. firstRefusal (ends b (cheapestLooked set query) (cheapestPlan set query))) e
+          ∙ ap (λ p. firstRefusal (ends true p (cheapestPlan set query))) k
 
-      -- the limit is not exceeded
-      pub unlimited-outcome : ltb (query .stepLimit) count ≡ false → (o : Option Sequence) → cheapestPlan set query ≡ o
-          → outcome ≡ firstRefusal (ends false o)
+      -- where it is not, the cheapest plan decides: 0 with one, 15 without one
+      pub unlimited-outcome : exceedsLimit set query ≡ false → (o : Option Sequence) → cheapestPlan set query ≡ o
+          → outcome ≡ firstRefusal (ends false none o)
       unlimited-outcome e o k =
-          begins ∙ ap (λ b. firstRefusal (ends b (cheapestPlan set query))) e ∙ ap (λ p. firstRefusal (ends false p)) k
+          begins ∙ ap (λ b. firstRefusal (ends b (cheapestLooked set query) (cheapestPlan set query))) e
+          ∙ ap (λ p. firstRefusal (ends false none p)) k
 
-      ways : Limited outcome ⊎ (Unsolvable outcome ⊎ Solved outcome)
-      ways = byCount (ltb (query .stepLimit) count) refl (cheapestPlan set query) refl
+      ways : (PlanLooked outcome ⊎ NoneLooked outcome) ⊎ (Unsolvable outcome ⊎ Solved outcome)
+      ways =
+          byCount (exceedsLimit set query) refl (cheapestLooked set query) refl (cheapestPlan set query) refl
         where
-          byCount : (b : Bool) → ltb (query .stepLimit) count ≡ b → (o : Option Sequence) → cheapestPlan set query ≡ o
-              → Limited outcome ⊎ (Unsolvable outcome ⊎ Solved outcome)
-          byCount true e o k = inl (ltb-true (query .stepLimit) count e, limited-outcome e)
-          byCount false e none k = inr (inl (ltb-false (query .stepLimit) count e, k, unlimited-outcome e none k))
-          byCount false e (some p) k =
+          byCount : (b : Bool) → exceedsLimit set query ≡ b
+              → (l : Option Sequence) → cheapestLooked set query ≡ l
+              → (o : Option Sequence) → cheapestPlan set query ≡ o
+              → (PlanLooked outcome ⊎ NoneLooked outcome) ⊎ (Unsolvable outcome ⊎ Solved outcome)
+          byCount true e (some p) n o k =
+              inl (inl (ltb-true (query .stepLimit) count e, limited-outcome e (some p) n))
+          byCount true e none n o k =
+              inl (inr (ltb-true (query .stepLimit) count e, limited-outcome e none n))
+          byCount false e l n none k =
+              inr (inl (ltb-false (query .stepLimit) count e, k, unlimited-outcome e none k))
+          byCount false e l n (some p) k =
               inr (inr (ltb-false (query .stepLimit) count e, (p, k), unlimited-outcome e (some p) k))
 
     -- demand 3: what holds of the answer of every query that is not refused
@@ -126,17 +163,33 @@ module _ (set : RuleSet) (query : Query) where
         Holds : ℕ → Type 0
         Holds outcome = Demand3 set query room (searchedWith set query room outcome)
 
-        limited : query .stepLimit < count → Holds 16
-        limited above =
+        withLooked : query .stepLimit < count → Holds 18
+        withLooked above =
             record {
               counted = visited-iff set query;
               once = visited-once set query;
               steps = refl;
-              limitExceeded = (λ _. above, λ _. refl);
-              noPlan = λ n. absurd (n refl);
-              planFound = λ n. absurd (n refl);
+              limitExceeded = (λ _. above, λ _. inr refl);
+              noPlan = λ n. absurd (n (inr refl));
+              planFound = λ n. absurd (n (inr refl));
               cheapestShown = λ e. absurd (omega arith);
             }
+
+        withoutLooked : query .stepLimit < count → Holds 16
+        withoutLooked above =
+            record {
+              counted = visited-iff set query;
+              once = visited-once set query;
+              steps = refl;
+              limitExceeded = (λ _. above, λ _. inl refl);
+              noPlan = λ n. absurd (n (inl refl));
+              planFound = λ n. absurd (n (inl refl));
+              cheapestShown = λ e. absurd (omega arith);
+            }
+
+        unlimited : (n : ℕ) → n ≤ 15 → Limited n → ⊥
+        unlimited n k (inl e) = omega arith
+        unlimited n k (inr e) = omega arith
 
         unsolvable : count ≤ query .stepLimit → cheapestPlan set query ≡ none → Holds 15
         unsolvable under e =
@@ -144,7 +197,7 @@ module _ (set : RuleSet) (query : Query) where
               counted = visited-iff set query;
               once = visited-once set query;
               steps = refl;
-              limitExceeded = (λ k. absurd (omega arith), λ k. absurd (omega arith));
+              limitExceeded = (λ k. absurd (unlimited 15 (lit≤ tt) k), λ k. absurd (omega arith));
               noPlan = λ _. (λ _. none-leads e, λ _. refl);
               planFound = λ _ n. absurd (n refl);
               cheapestShown = λ k. absurd (omega arith);
@@ -158,7 +211,7 @@ module _ (set : RuleSet) (query : Query) where
               counted = visited-iff set query;
               once = visited-once set query;
               steps = refl;
-              limitExceeded = (λ k. absurd (omega arith), λ k. absurd (omega arith));
+              limitExceeded = (λ k. absurd (unlimited 0 (lit≤ tt) k), λ k. absurd (omega arith));
               noPlan = λ _. (λ k. absurd (omega arith), λ n. absurd (n p (leads .0)));
               planFound = λ _ _. refl;
               cheapestShown =
@@ -166,7 +219,9 @@ module _ (set : RuleSet) (query : Query) where
                   λ _. (p, leads .0, ap (sequenceCost set) shown, ap length shown, put, leads .1);
             }
 
-        byWay : (outcome : ℕ) → Limited outcome ⊎ (Unsolvable outcome ⊎ Solved outcome) → Holds outcome
-        byWay outcome (inl w) = subst Holds (sym (w .1)) (limited (w .0))
+        byWay : (outcome : ℕ) → (PlanLooked outcome ⊎ NoneLooked outcome) ⊎ (Unsolvable outcome ⊎ Solved outcome)
+            → Holds outcome
+        byWay outcome (inl (inl w)) = subst Holds (sym (w .1)) (withLooked (w .0))
+        byWay outcome (inl (inr w)) = subst Holds (sym (w .1)) (withoutLooked (w .0))
         byWay outcome (inr (inl w)) = subst Holds (sym (w .2)) (unsolvable (w .0) (w .1))
         byWay outcome (inr (inr w)) = subst Holds (sym (w .2)) (solved (w .0) (w .1 .0) (w .1 .1))

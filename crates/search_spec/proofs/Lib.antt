@@ -1,6 +1,8 @@
 pub mod VisitedLaws
+pub mod LookedLaws
 pub mod Demand
 pub mod PlanVisited
+pub mod AtLimitLaws
 pub mod AnswerLaws
 pub mod MeaningLaws
 pub mod OutcomeLaws

@@ -1,29 +1,29 @@
 -- What the answer of a search means, for every query: each number exactly if its cause holds and none before it does, 0
 -- exactly if none does; demand 3 for a query that is not refused.
 -- Assumes nothing.
-use mathlib.Core.Path.{_≡_, refl, ap, _∙_}
-use mathlib.Core.Logic.{_↔_, _≢_, Iff·trans}
-use mathlib.Core.Bool.{Bool, true, false, not}
-use mathlib.Core.Option.{Option, some, none}
+use mathlib.Core.Path.{_≡_, refl, sym, ap, _∙_, subst}
+use mathlib.Core.Logic.{_↔_, _≢_, inl, inr, Iff·trans}
+use mathlib.Core.Bool.{Bool, true, not, _&&_}
 use mathlib.Core.List.{List, [], _∷_, _++_}
-use Prim.Native.Nat.{ℕ}
+use Prim.Native.Nat.{ℕ, _<_}
 use native.Mathlib.Omega.{arith}
 use lib.Dec.{ltb}
 use lib.ListN.{length, drop}
-use borrow.Author.Tests.{not-false, ltb-false, le-ltb, ne-eqb}
+use borrow.Author.Tests.{ltb-false, le-ltb}
 use Rattle.theory_spec.specs.Lists.{isSome}
 use Rattle.theory_spec.specs.Sequences.{Sequence}
-use Rattle.theory_spec.proofs.ListLaws.{of-isSome}
-use Rattle.theory_spec.proofs.TestLaws.{ltb-iff, not-iff}
+use Rattle.theory_spec.proofs.ListLaws.{of-isSome, there-iff}
+use Rattle.theory_spec.proofs.TestLaws.{ltb-iff, not-iff, fails-iff, unfailed-iff, and-iff}
 use Rattle.model_spec.specs.Refusals.{Cause, firstRefusal, NoneHolds}
 use Rattle.model_spec.specs.declared.RuleSet.{RuleSet}
-use Rattle.model_spec.proofs.RefusalLaws.{no-refusal-iff, refusal-before}
-use Rattle.model_spec.proofs.CauseLaws.{early-iff, other-number, passed-iff, refused-iff}
+use Rattle.model_spec.proofs.RefusalLaws.{no-refusal-iff}
+use Rattle.model_spec.proofs.CauseLaws.{early-iff, passed-iff, refused-iff}
 use Rattle.tables_spec.specs.Table.{accepted, Accepted}
 use Rattle.tables_spec.specs.Answers.{tableCauses, buildOutcome, Ready}
 use Rattle.tables_spec.proofs.TableLaws.{accepted-iff}
 use Rattle.tables_spec.proofs.AnswerLaws.{build-ready-iff, build-meaning}
 use Rattle.search_spec.specs.Query.{Query, startFits, goalFits, visitedBy, StartFits, GoalFits, LeadsToGoal}
+use Rattle.search_spec.specs.Looked.{exceedsLimit, cheapestLooked, LookedPlan}
 use Rattle.search_spec.specs.Searched.{
   queryCauses,
   cheapestPlan,
@@ -32,21 +32,23 @@ use Rattle.search_spec.specs.Searched.{
   searchedWith,
   searched,
   NotRefused,
+  Limited,
+  PlanAtLimit,
   StartPassed,
   GoalPassed,
   MovesPassed,
   RoomPassed,
   WellPosed,
+  OverLimit,
   WithinLimit,
   SearchMeaning,
 }
 use Rattle.search_spec.proofs.VisitedLaws.{start-fits-iff, goal-fits-iff}
-use Rattle.search_spec.proofs.Demand.{query-numbers, ends, cheapest-leads, none-leads, demand-3}
-use Rattle.search_spec.proofs.AnswerLaws.{search-numbers, searched-blank, refused-steps}
-
--- a cause that is a test's failing does not hold exactly if the test's statement does
-unfailed-iff : (t : Bool) {P : Type 0} → (t ≡ true) ↔ P → (not t ≡ false) ↔ P
-unfailed-iff t i = (λ e. i .0 (not-false t e), λ p. ap not (i .1 p))
+use Rattle.search_spec.proofs.Demand.{query-numbers, cheapest-leads, none-leads, demand-3}
+use Rattle.search_spec.proofs.LookedLaws.{looked-meaning, some-looked-iff}
+use Rattle.search_spec.proofs.AtLimitLaws.{plan-at-limit}
+use Rattle.search_spec.proofs.AnswerLaws.{search-numbers, refused-outcome, refused-no-answer}
+use Rattle.search_spec.proofs.AnswerLaws.{searched-blank, searched-floorless, refused-steps}
 
 -- ── The causes in turn ───────────────────────────────────────────────────────────────────────────
 
@@ -106,65 +108,98 @@ module _ (set : RuleSet) (query : Query) (room : ℕ) where
   pub unrefused-iff : (firstRefusal (queryCauses set query room) ≡ 0) ↔ WellPosed set query room
   unrefused-iff = Iff·trans (no-refusal-iff (queryCauses set query room) (query-numbers set query room)) not-refused-iff
 
-  -- a refusal is the outcome, and none of the outcomes of an answer
-  module _ (refused : firstRefusal (queryCauses set query room) ≢ 0) where
-    pub refused-outcome : firstRefusal (searchCauses set query room) ≡ firstRefusal (queryCauses set query room)
-    unfolding searchCauses
-    refused-outcome =
-        refusal-before (queryCauses set query room)
-        (ends (ltb (query .stepLimit) (length (visitedBy set query))) (cheapestPlan set query)) refused
-
-    pub refused-no-answer : isAnswer (firstRefusal (queryCauses set query room)) ≡ false
-    unfolding queryCauses tableCauses
-    refused-no-answer =
-        let causes = queryCauses set query room in
-        let none = ne-eqb (firstRefusal causes) 0 refused in
-        let unsolvable = ne-eqb (firstRefusal causes) 15 (other-number causes 15 (λ e. omega arith) refl) in
-        let limited = ne-eqb (firstRefusal causes) 16 (other-number causes 16 (λ e. omega arith) refl) in
-        rw (none, unsolvable, limited)
-
   refused-no-steps : (WellPosed set query room → ⊥) → searched set query room .answer .steps ≡ 0
   unfolding searched searchedWith
   refused-no-steps n =
       let refused : firstRefusal (queryCauses set query room) ≢ 0 = λ e. n (unrefused-iff .0 e) in
-      refused-steps set query room (ap isAnswer (refused-outcome refused) ∙ refused-no-answer refused)
+      refused-steps set query room
+      (ap isAnswer (refused-outcome set query room refused) ∙ refused-no-answer set query room refused)
 
   -- ── Limit and plan ─────────────────────────────────────────────────────────────────────────────
 
+  abbrev causes : List Cause
+  causes = searchCauses set query room
+
+  abbrev outcome : ℕ
+  outcome = firstRefusal causes
+
+  abbrev over : Bool
+  over = exceedsLimit set query
+
+  abbrev untilLooked : List Cause
+  untilLooked = queryCauses set query room ++ ((18, over && isSome (cheapestLooked set query)) ∷ [])
+
   abbrev untilLimit : List Cause
-  untilLimit = queryCauses set query room ++ ((16, ltb (query .stepLimit) (length (visitedBy set query))) ∷ [])
+  untilLimit = untilLooked ++ ((16, over) ∷ [])
+
+  over-iff : (over ≡ true) ↔ (query .stepLimit < length (visitedBy set query))
+  over-iff = ltb-iff (query .stepLimit) (length (visitedBy set query))
+
+  -- the limit is exceeded, and a plan is looked at
+  looked-iff : ((over && isSome (cheapestLooked set query)) ≡ true)
+      ↔ ((query .stepLimit < length (visitedBy set query)) × ((q : Sequence) × LookedPlan set query q))
+  looked-iff = and-iff over (isSome (cheapestLooked set query)) over-iff (some-looked-iff set query)
+
+  until-looked-iff : NoneHolds untilLooked
+      ↔ (WellPosed set query room
+      × ((query .stepLimit < length (visitedBy set query)) × ((q : Sequence) × LookedPlan set query q) → ⊥))
+  until-looked-iff = passed-iff (queryCauses set query room) 18 _ not-refused-iff (fails-iff _ looked-iff)
+
+  plan-at-limit-iff : (outcome ≡ 18) ↔ (OverLimit set query room × ((q : Sequence) × LookedPlan set query q))
+  unfolding searchCauses queryCauses tableCauses
+  plan-at-limit-iff =
+      Iff·trans (refused-iff (queryCauses set query room) 18 _ not-refused-iff (drop 9 causes) (λ e. omega arith) refl
+      refl looked-iff) (λ w. ((w .0, w .1 .0), w .1 .1), λ w. (w .0 .0, (w .0 .1, w .1)))
+
+  none-at-limit-iff : (outcome ≡ 16) ↔ (OverLimit set query room × ((q : Sequence) → LookedPlan set query q → ⊥))
+  unfolding searchCauses queryCauses tableCauses
+  none-at-limit-iff =
+      Iff·trans (refused-iff untilLooked 16 _ until-looked-iff (drop 10 causes) (λ e. omega arith) refl refl over-iff) (
+        λ w. ((w .0 .0, w .1), λ q k. w .0 .1 (w .1, (q, k))),
+        λ w. ((w .0 .0, λ v. w .1 (v .1 .0) (v .1 .1)), w .0 .1),
+      )
 
   within-limit-iff : NoneHolds untilLimit ↔ WithinLimit set query room
   within-limit-iff =
-      passed-iff (queryCauses set query room) 16 _ not-refused-iff (
+      Iff·trans (passed-iff untilLooked 16 _ until-looked-iff (
         ltb-false (query .stepLimit) (length (visitedBy set query)),
         le-ltb (query .stepLimit) (length (visitedBy set query)),
-      )
+      )) (λ w. (w .0 .0, w .1), λ w. ((w .0, λ v. omega (arith, v .0, w .1)), w .1))
 
   -- there is a cheapest plan exactly if some sequence leads to the goal
   some-plan-iff : (isSome (cheapestPlan set query) ≡ true) ↔ ((q : Sequence) × LeadsToGoal set query q)
-  some-plan-iff = (
-    λ e. let p = of-isSome (cheapestPlan set query) e in
-        (p .0, cheapest-leads set query (p .0) (p .1) .0),
-    λ w. go (cheapestPlan set query) refl w,
-  )
-    where
-      go : (o : Option Sequence) → cheapestPlan set query ≡ o → ((q : Sequence) × LeadsToGoal set query q)
-          → isSome o ≡ true
-      go none e w = absurd (none-leads set query e (w .0) (w .1))
-      go (some p) e w = refl
+  some-plan-iff =
+      there-iff (cheapestPlan set query) (λ p e. cheapest-leads set query p e .0) (none-leads set query)
 
   no-plan-iff : (not (isSome (cheapestPlan set query)) ≡ true) ↔ ((q : Sequence) → LeadsToGoal set query q → ⊥)
   no-plan-iff =
       let i = not-iff (isSome (cheapestPlan set query)) some-plan-iff in
       (λ e q h. i .0 e (q, h), λ n. i .1 (λ w. n (w .0) (w .1)))
 
+  -- over the limit the steps are the limit
+  limit-steps : Limited outcome → searched set query room .answer .steps ≡ query .stepLimit
+  limit-steps w = byOver (over-limit w)
+    where
+      over-limit : Limited outcome → OverLimit set query room
+      over-limit (inl e) = none-at-limit-iff .0 e .0
+      over-limit (inr e) = plan-at-limit-iff .0 e .0
+
+      byOver : OverLimit set query room → searched set query room .answer .steps ≡ query .stepLimit
+      byOver o = omega (arith, demand-3 set query room (not-refused-iff .1 (o .0)) .steps, o .1)
+
+  shown-at-limit : outcome ≡ 18 → PlanAtLimit set query room (searched set query room)
+  unfolding searched
+  shown-at-limit e =
+      let w = plan-at-limit-iff .0 e in
+      let p = of-isSome (cheapestLooked set query) (some-looked-iff set query .1 (w .1)) in
+      subst (λ n. PlanAtLimit set query room (searchedWith set query room n)) (sym e)
+      (plan-at-limit set query room (not-refused-iff .1 (w .0 .0)) (p .0) (p .1))
+
   -- what a search gives and leaves has its meaning, for every set, query and room
   pub search-meaning : SearchMeaning set query room (searched set query room)
   unfolding searched searchedWith searchCauses queryCauses tableCauses buildOutcome
   search-meaning =
       let shared = build-meaning set (query .reach) (length (query .table)) in
-      let causes = searchCauses set query room in
       record {
         notValid = Iff·trans (early-iff untilTable (drop 3 causes) 7 (λ e. omega arith) refl) (shared .notValid);
         badReach = Iff·trans (early-iff untilTable (drop 3 causes) 5 (λ e. omega arith) refl) (shared .badReach);
@@ -183,15 +218,18 @@ module _ (set : RuleSet) (query : Query) (room : ℕ) where
         notAccepted =
             refused-iff untilRoom 14 _ room-passed-iff (drop 8 causes) (λ e. omega arith) refl refl
             (not-iff _ accepts-iff);
-        limited =
-            refused-iff (queryCauses set query room) 16 _ not-refused-iff (drop 9 causes) (λ e. omega arith) refl refl
-            (ltb-iff (query .stepLimit) (length (visitedBy set query)));
+        planAtLimit = plan-at-limit-iff;
+        noneAtLimit = none-at-limit-iff;
         unsolvable =
             refused-iff untilLimit 15 _ within-limit-iff [] (λ e. omega arith) refl refl no-plan-iff;
         solved =
             Iff·trans (no-refusal-iff causes (search-numbers set query room))
             (passed-iff untilLimit 15 _ within-limit-iff (unfailed-iff _ some-plan-iff));
         answered = λ f. demand-3 set query room (not-refused-iff .1 f);
+        looked = looked-meaning set query;
+        limitSteps = limit-steps;
+        shownAtLimit = shown-at-limit;
         noSteps = refused-no-steps;
         noPlanShown = searched-blank set query room;
+        noFloor = searched-floorless set query room;
       }

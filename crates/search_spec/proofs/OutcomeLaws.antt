@@ -9,10 +9,10 @@ use mathlib.Core.List.{List, [], _∷_, _++_}
 use Prim.Native.Nat.{ℕ, min, _≤_, _<_}
 use native.Mathlib.Omega.{arith}
 use lib.Dec.{ltb}
-use lib.ListN.{length, replicate}
+use lib.ListN.{length}
 use borrow.Author.Tests.{lt-ltb, le-ltb, ne-eqb}
-use Rattle.theory_spec.specs.Lists.{padded}
 use Rattle.theory_spec.specs.Sequences.{Sequence}
+use Rattle.theory_spec.proofs.ListLaws.{not-both}
 use Rattle.model_spec.specs.Refusals.{Cause, firstRefusal}
 use Rattle.model_spec.specs.Rules.{sequenceCost}
 use Rattle.model_spec.specs.declared.RuleSet.{RuleSet}
@@ -21,10 +21,12 @@ use Rattle.tables_spec.specs.Table.{accepted}
 use Rattle.tables_spec.specs.Answers.{tableCauses, buildOutcome, checkCauses, checkOutcome, Ready}
 use Rattle.tables_spec.proofs.AnswerLaws.{build-ready-iff, check-meaning}
 use Rattle.search_spec.specs.Query.{Query, startFits, goalFits, visitedBy}
-use Rattle.search_spec.specs.Searched.{queryCauses, cheapestPlan, isAnswer, shownPlan, noMove, Searched}
-use Rattle.search_spec.specs.Searched.{searchedWith, searched}
-use Rattle.search_spec.proofs.Demand.{blank-buffer, limited-outcome, unlimited-outcome, shown-plan}
-use Rattle.search_spec.proofs.MeaningLaws.{refused-outcome, refused-no-answer}
+use Rattle.search_spec.specs.Looked.{exceedsLimit, cheapestLooked, floorBeside}
+use Rattle.search_spec.specs.Searched.{queryCauses, cheapestPlan, isAnswer, shownPlan, searchedWith}
+use Rattle.search_spec.specs.Searched.{searched}
+use Rattle.search_spec.proofs.Demand.{withPlan, withoutPlan, blank-buffer, limited-outcome}
+use Rattle.search_spec.proofs.Demand.{unlimited-outcome, shown-plan, shown-looked}
+use Rattle.search_spec.proofs.AnswerLaws.{refused-outcome, refused-no-answer}
 
 -- ── The check of the table, and the query's own causes ───────────────────────────────────────────
 
@@ -120,59 +122,52 @@ module _ (set : RuleSet) (query : Query) where
 
 -- ── What a search leaves with each outcome ───────────────────────────────────────────────────────
 
--- with a plan
-abbrev pub withPlan : RuleSet → ℕ → Sequence → ℕ → Searched
-withPlan set room p steps =
-    record {
-      answer = record { outcome = 0; cost = sequenceCost set p; length = length p; steps = steps };
-      plan = padded room noMove p;
-    }
-
--- without one
-abbrev pub withoutPlan : ℕ → ℕ → ℕ → Searched
-withoutPlan room outcome steps =
-    record {
-      answer = record { outcome = outcome; cost = 0; length = 0; steps = steps };
-      plan = replicate room noMove;
-    }
-
 module _ (set : RuleSet) (query : Query) (room : ℕ) where
   abbrev refusal : ℕ
   refusal = firstRefusal (queryCauses set query room)
 
-  abbrev count : ℕ
-  count = length (visitedBy set query)
+  -- the steps of an answer
+  abbrev counted : ℕ
+  counted = min (length (visitedBy set query)) (query .stepLimit)
 
-  shown-none : (outcome : ℕ) → outcome ≢ 0
-      → searchedWith set query room outcome
-      ≡ withoutPlan room outcome (cond (isAnswer outcome) (min count (query .stepLimit)) 0)
+  shown-none : (outcome : ℕ) → outcome ≢ 0 → outcome ≢ 18
+      → searchedWith set query room outcome ≡ withoutPlan room outcome (cond (isAnswer outcome) counted 0)
   unfolding searchedWith shownPlan sequenceCost
-  shown-none outcome h = rw (ne-eqb outcome 0 h, blank-buffer room)
+  shown-none outcome h k = rw (ne-eqb outcome 0 h, ne-eqb outcome 18 k, blank-buffer room)
 
   pub searched-refused : refusal ≢ 0 → searched set query room ≡ withoutPlan room refusal 0
   unfolding searched
   searched-refused h =
-      ap (searchedWith set query room) (refused-outcome set query room h) ∙ shown-none refusal h
-      ∙ ap (λ b. withoutPlan room refusal (cond b (min count (query .stepLimit)) 0))
-      (refused-no-answer set query room h)
+      let answerless = refused-no-answer set query room h in
+      ap (searchedWith set query room) (refused-outcome set query room h)
+      ∙ shown-none refusal h (λ e. not-both (ap isAnswer e) answerless)
+      ∙ ap (λ b. withoutPlan room refusal (cond b counted 0)) answerless
 
   module _ (h : refusal ≡ 0) where
-    pub searched-limited : ltb (query .stepLimit) count ≡ true
-        → searched set query room ≡ withoutPlan room 16 (min count (query .stepLimit))
-    unfolding searched
-    searched-limited e =
-        ap (searchedWith set query room) (limited-outcome set query room h e) ∙ shown-none 16 (λ k. omega arith)
+    pub searched-looked : exceedsLimit set query ≡ true → (p : Sequence) → cheapestLooked set query ≡ some p
+        → searched set query room ≡ withPlan set room 18 p counted (floorBeside set query p)
+    unfolding searched searchedWith
+    searched-looked e p k =
+        ap (searchedWith set query room) (limited-outcome set query room h e (some p) k)
+        ∙ ap (λ q. withPlan set room 18 q counted (floorBeside set query q)) (shown-looked set query p k)
 
-    pub searched-unsolvable : ltb (query .stepLimit) count ≡ false → cheapestPlan set query ≡ none
-        → searched set query room ≡ withoutPlan room 15 (min count (query .stepLimit))
+    pub searched-none-looked : exceedsLimit set query ≡ true → cheapestLooked set query ≡ none
+        → searched set query room ≡ withoutPlan room 16 counted
+    unfolding searched
+    searched-none-looked e k =
+        ap (searchedWith set query room) (limited-outcome set query room h e none k)
+        ∙ shown-none 16 (λ k. omega arith) (λ k. omega arith)
+
+    pub searched-unsolvable : exceedsLimit set query ≡ false → cheapestPlan set query ≡ none
+        → searched set query room ≡ withoutPlan room 15 counted
     unfolding searched
     searched-unsolvable e k =
         ap (searchedWith set query room) (unlimited-outcome set query room h e none k)
-        ∙ shown-none 15 (λ k. omega arith)
+        ∙ shown-none 15 (λ k. omega arith) (λ k. omega arith)
 
-    pub searched-solved : ltb (query .stepLimit) count ≡ false → (p : Sequence) → cheapestPlan set query ≡ some p
-        → searched set query room ≡ withPlan set room p (min count (query .stepLimit))
+    pub searched-solved : exceedsLimit set query ≡ false → (p : Sequence) → cheapestPlan set query ≡ some p
+        → searched set query room ≡ withPlan set room 0 p counted 0
     unfolding searched searchedWith
     searched-solved e p k =
         ap (searchedWith set query room) (unlimited-outcome set query room h e (some p) k)
-        ∙ ap (λ q. withPlan set room q (min count (query .stepLimit))) (shown-plan set query p k)
+        ∙ ap (λ q. withPlan set room 0 q counted 0) (shown-plan set query p k)

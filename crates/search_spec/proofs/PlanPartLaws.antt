@@ -51,8 +51,8 @@ module _ (set : RuleSet) (query : Query) (room : ℕ) where
     rest : (p : Sequence) → Holds p → found .plan ≡ padded room noMove (partOf found)
     rest p h = rw (held p h) (h .1)
 
-    none : found .answer .outcome ≢ 0 → Holds []
-    none n = let blank = means .noPlanShown n in (blank .1, blank .2 ∙ sym (blank-buffer room))
+    none : found .answer .outcome ≢ 0 → found .answer .outcome ≢ 18 → Holds []
+    none n k = let blank = means .noPlanShown n k in (blank .1, blank .2 ∙ sym (blank-buffer room))
 
     -- `PartMeaning` follows from `SearchMeaning` alone
     pub part-meaning : PartMeaning set query room found
@@ -61,18 +61,23 @@ module _ (set : RuleSet) (query : Query) (room : ℕ) where
           cheapestHanded =
               λ e. let shown = means .answered (means .solved .0 e .0 .0) .cheapestShown e in
               rw (held (shown .0) (shown .3, shown .4)) (shown .1, shown .5);
-          emptyHanded = λ n. held [] (none n);
-          restBlank = byOutcome (equal? (found .answer .outcome) 0);
+          lookedHanded =
+              λ e. let at = means .shownAtLimit e in
+              rw (held (at .shown) (at .lengthShown, at .planShown)) (at .isLooked, at .preferred);
+          emptyHanded = λ n k. held [] (none n k);
+          restBlank = byOutcome (equal? (found .answer .outcome) 0) (equal? (found .answer .outcome) 18);
         }
       where
         byOutcome : (found .answer .outcome ≡ 0) ⊎ (found .answer .outcome ≢ 0)
+            → (found .answer .outcome ≡ 18) ⊎ (found .answer .outcome ≢ 18)
             → found .plan ≡ padded room noMove (partOf found)
-        byOutcome (inl e) =
+        byOutcome (inl e) _ =
             let shown = means .answered (means .solved .0 e .0 .0) .cheapestShown e in
             rest (shown .0) (shown .3, shown .4)
-        byOutcome (inr n) = rest [] (none n)
+        byOutcome (inr n) (inl e) = let at = means .shownAtLimit e in rest (at .shown) (at .lengthShown, at .planShown)
+        byOutcome (inr n) (inr k) = rest [] (none n k)
 
-  -- the part of what a search leaves, for every query: the plan's rule numbers for outcome 0, otherwise empty
+  -- the part of what a search leaves, for every query: the plan's rule numbers for 0 and 18, otherwise empty
   pub part-shown : partOf (searched set query room) ≡ shownPlan set query (searched set query room .answer .outcome)
   unfolding searched searchedWith
   part-shown = part-before _ _

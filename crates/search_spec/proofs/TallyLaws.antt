@@ -25,15 +25,17 @@ module _ (tally : Tally) (outcome steps : ℕ) where
 
   updated : Updated (talliedOf tally outcome steps)
   unfolding talliedOf
-  updated = go (equal? outcome 0) (equal? outcome 15) (equal? outcome 16)
+  updated = go (equal? outcome 0) (equal? outcome 15) (equal? outcome 16) (equal? outcome 18)
     where
       go : (outcome ≡ 0) ⊎ (outcome ≢ 0) → (outcome ≡ 15) ⊎ (outcome ≢ 15) → (outcome ≡ 16) ⊎ (outcome ≢ 16)
-          → Updated (talliedOf tally outcome steps)
-      go (inl e) _ _ = rw e (0, lit< tt, refl, refl)
-      go (inr _) (inl e) _ = rw e (1, lit< tt, refl, refl)
-      go (inr _) (inr _) (inl e) = rw e (2, lit< tt, refl, refl)
-      go (inr l) (inr m) (inr n) =
-          rw (ne-eqb outcome 0 l, ne-eqb outcome 15 m, ne-eqb outcome 16 n) (3, lit< tt, refl, refl)
+          → (outcome ≡ 18) ⊎ (outcome ≢ 18) → Updated (talliedOf tally outcome steps)
+      go (inl e) _ _ _ = rw e (0, lit< tt, refl, refl)
+      go (inr _) (inl e) _ _ = rw e (1, lit< tt, refl, refl)
+      go (inr _) (inr _) (inl e) _ = rw e (2, lit< tt, refl, refl)
+      go (inr _) (inr _) (inr _) (inl e) = rw e (2, lit< tt, refl, refl)
+      go (inr k) (inr l) (inr m) (inr n) =
+          rw (ne-eqb outcome 0 k, ne-eqb outcome 15 l, ne-eqb outcome 16 m, ne-eqb outcome 18 n)
+          (3, lit< tt, refl, refl)
 
   -- one count is raised by one, or stays at its top, and the others stay as they were
   pub one-raised : OneRaised tally (talliedOf tally outcome steps)

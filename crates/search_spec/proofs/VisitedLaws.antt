@@ -4,21 +4,23 @@
 use mathlib.Core.Path.{_≡_, ap, _∙_}
 use mathlib.Core.Logic.{_↔_, _≢_}
 use mathlib.Core.Bool.{Bool, true, false}
-use mathlib.Core.List.{List}
+use mathlib.Core.List.{List, _++_}
 use Prim.Native.Nat.{ℕ}
-use lib.ListN.{length, getD}
+use native.Mathlib.Omega.{arith}
+use lib.ListN.{length, getD, length-append}
 use Rattle.theory_spec.specs.Lists.{_∈_, keep, isSome, Pairwise}
 use Rattle.theory_spec.specs.Sequences.{Sequence, run, sequences, depthFirst}
-use Rattle.theory_spec.specs.Order.{Before}
+use Rattle.theory_spec.specs.Order.{LexBefore, Before}
 use Rattle.theory_spec.specs.Pruning.{pruned}
 use Rattle.theory_spec.specs.Plans.{isPlan, allowed, isVisited}
 use Rattle.theory_spec.proofs.ListLaws.{never-true, of-isSome, and-split, and-join, not-both, in-keep, of-keep}
 use Rattle.theory_spec.proofs.ListLaws.{pairwise-keep}
-use Rattle.theory_spec.proofs.SequenceLaws.{of-sequences, in-sequences, of-depthFirst, in-depthFirst}
-use Rattle.theory_spec.proofs.OrderLaws.{sequences-ordered, depthFirst-distinct}
+use Rattle.theory_spec.proofs.SequenceLaws.{numbered-left, of-sequences, in-sequences, of-depthFirst}
+use Rattle.theory_spec.proofs.SequenceLaws.{in-depthFirst}
+use Rattle.theory_spec.proofs.OrderLaws.{sequences-ordered, depthFirst-ordered, depthFirst-distinct}
 use Rattle.theory_spec.proofs.PruningLaws.{pruned-segment, segment-pruned, of-plan, in-plan}
 use Rattle.theory_spec.proofs.TestLaws.{ltb-iff, eqb-iff, and-iff, unless-iff, every-below-iff}
-use Rattle.theory_spec.proofs.VisitLaws.{of-allowed, in-allowed}
+use Rattle.theory_spec.proofs.VisitLaws.{of-allowed, in-allowed, visited-prefix}
 use Rattle.model_spec.specs.States.{State}
 use Rattle.model_spec.specs.Rules.{stepOf, ruleCost, runIn, sequenceCost}
 use Rattle.model_spec.specs.declared.RuleSet.{RuleSet}
@@ -116,6 +118,24 @@ module _ (set : RuleSet) (query : Query) where
   visited-once =
       pairwise-keep (λ (a b : Sequence). a ≢ b) visits (depthFirst (set .count) (query .maxMoves))
       (depthFirst-distinct (set .count) (query .maxMoves))
+
+  -- they stand in depth-first order
+  pub visited-ordered : Pairwise LexBefore (visitedBy set query)
+  unfolding visitedBy
+  visited-ordered =
+      pairwise-keep LexBefore visits (depthFirst (set .count) (query .maxMoves))
+      (depthFirst-ordered (set .count) (query .maxMoves))
+
+  -- the front of a visited sequence is visited
+  pub visited-closed : (x y : Sequence) → (x ++ y) ∈ visitedBy set query → x ∈ visitedBy set query
+  unfolding visitedBy
+  visited-closed x y d =
+      let w = of-keep visits (depthFirst (set .count) (query .maxMoves)) d in
+      let inside = of-depthFirst (set .count) (query .maxMoves) (w .0) in
+      in-keep visits
+      (in-depthFirst (set .count) (query .maxMoves) x (omega (arith, length-append x y, inside .0))
+      (numbered-left (set .count) x y (inside .1)))
+      (visited-prefix (stepOf set) (ruleCost set) (set .count) marks (startState query) (query .maxCost) x y (w .1))
 
   -- the plans are exactly the rule sequences that lead to the goal within both bounds, pruned or not
   pub plans-iff : (q : Sequence) → (q ∈ plansFor set query) ↔ LeadsToGoal set query q

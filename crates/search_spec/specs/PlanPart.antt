@@ -12,6 +12,7 @@ use Rattle.theory_spec.specs.Plans.{Preferred}
 use Rattle.model_spec.specs.Rules.{ruleCost}
 use Rattle.model_spec.specs.declared.RuleSet.{RuleSet}
 use Rattle.search_spec.specs.Query.{Query, LeadsToGoal}
+use Rattle.search_spec.specs.Looked.{LookedPlan}
 use Rattle.search_spec.specs.Searched.{noMove, Searched}
 
 -- the first n bytes of the buffer; none where n is above its length
@@ -32,7 +33,13 @@ pub record PartMeaning (set : RuleSet) (query : Query) (room : ℕ) (found : Sea
       → LeadsToGoal set query (partOf found)
       × ((q : Sequence) → LeadsToGoal set query q
       → (q ≡ partOf found) ⊎ Preferred (ruleCost set) (partOf found) q)
+  -- with outcome 18 it is such a sequence that is looked at, and every other one that is costs more, or costs as much
+  -- and comes later
+  pub lookedHanded : found .answer .outcome ≡ 18
+      → LookedPlan set query (partOf found)
+      × ((q : Sequence) → LookedPlan set query q
+      → (q ≡ partOf found) ⊎ Preferred (ruleCost set) (partOf found) q)
   -- with any other outcome it is empty
-  pub emptyHanded : found .answer .outcome ≢ 0 → partOf found ≡ []
+  pub emptyHanded : found .answer .outcome ≢ 0 → found .answer .outcome ≢ 18 → partOf found ≡ []
   -- with every outcome, every other byte of the buffer is 255
   pub restBlank : found .plan ≡ padded room noMove (partOf found)

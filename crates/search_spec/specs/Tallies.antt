@@ -8,7 +8,7 @@ use lib.Dec.{eqb}
 use lib.ListN.{getD}
 use Rattle.model_spec.specs.declared.RuleSet.{RuleSet}
 use Rattle.search_spec.specs.Query.{Query}
-use Rattle.search_spec.specs.Searched.{isAnswer, Searched, searched}
+use Rattle.search_spec.specs.Searched.{isLimited, isAnswer, Searched, searched}
 use Rattle.search_spec.specs.declared.Tally.{Tally}
 
 -- the top value of a 64-bit count
@@ -23,14 +23,14 @@ raised count by = min (count + by) top
 abbrev pub raisedIf : Bool → ℕ → ℕ
 raisedIf hit count = cond hit (raised count 1) count
 
--- the tally after a query: plans (0), no plan (15), step limit exceeded (16, document 01: spent), refused (the rest),
--- and the sum of steps
+-- the tally after a query: plans (0), no plan (15), step limit exceeded (16 and 18, document 02: spent), refused (the
+-- rest), and the sum of steps
 unfoldable pub talliedOf : Tally → ℕ → ℕ → Tally
 talliedOf tally outcome steps =
     record {
       solved = raisedIf (eqb outcome 0) (tally .solved);
       unsolvable = raisedIf (eqb outcome 15) (tally .unsolvable);
-      limited = raisedIf (eqb outcome 16) (tally .limited);
+      limited = raisedIf (isLimited outcome) (tally .limited);
       refused = raisedIf (not (isAnswer outcome)) (tally .refused);
       steps = raised (tally .steps) steps;
     }
@@ -58,7 +58,8 @@ countAt tally i = getD (counts tally) i 0
 
 -- the place of an outcome's count among them
 abbrev pub countPlace : ℕ → ℕ
-countPlace outcome = cond (eqb outcome 0) 0 (cond (eqb outcome 15) 1 (cond (eqb outcome 16) 2 3))
+countPlace outcome =
+    cond (eqb outcome 0) 0 (cond (eqb outcome 15) 1 (cond (eqb outcome 16) 2 (cond (eqb outcome 18) 2 3)))
 
 -- 1 is added to just one of the first four, unless that one is at its top
 pub record OneRaised (before after : Tally) : Type 0 where

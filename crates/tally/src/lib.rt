@@ -2,7 +2,7 @@
 use search_spec::Tally;
 ghost use mathlib.Core.Path.{_≡_};
 ghost use mathlib.Core.Bool.{not};
-ghost use Rattle.search_spec.specs.Searched.{isAnswer};
+ghost use Rattle.search_spec.specs.Searched.{isLimited, isAnswer};
 ghost use Rattle.search_spec.specs.Tallies.{raised, raisedIf, talliedOf, TallyMeaning};
 
 // The top value of a 64-bit count.
@@ -28,7 +28,17 @@ fn raised_if(hit: bool, count: u64) -> u64
     count
 }
 
-// Whether an outcome counts as refused: it is none of 0 (a plan), 15 (no plan) and 16 (step limit exceeded).
+// Whether an outcome is one over the step limit: 16 (no plan met) or 18 (a plan met).
+fn is_limited(outcome: u8) -> bool
+    ensures { λ r. ⌜ r ≡ isLimited outcome ⌝ }
+{
+    if outcome == 16 {
+        return true;
+    }
+    outcome == 18
+}
+
+// Whether an outcome counts as refused: it is none of 0 (a plan), 15 (no plan) and those over the step limit.
 fn is_refusal(outcome: u8) -> bool
     ensures { λ r. ⌜ r ≡ not (isAnswer outcome) ⌝ }
 {
@@ -38,10 +48,7 @@ fn is_refusal(outcome: u8) -> bool
     if outcome == 15 {
         return false;
     }
-    if outcome == 16 {
-        return false;
-    }
-    true
+    !is_limited(outcome)
 }
 
 // The tally after a query: 1 more in the count of its outcome, and its steps in their sum.
@@ -53,7 +60,7 @@ pub fn tallied(tally: Tally, outcome: u8, steps: u32) -> Tally
     Tally {
         solved: raised_if(outcome == 0, tally.solved),
         unsolvable: raised_if(outcome == 15, tally.unsolvable),
-        limited: raised_if(outcome == 16, tally.limited),
+        limited: raised_if(is_limited(outcome), tally.limited),
         refused: raised_if(is_refusal(outcome), tally.refused),
         steps: raised(tally.steps, steps as u64),
     }

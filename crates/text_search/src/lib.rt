@@ -38,6 +38,7 @@ pub fn search_text(
             cost: 0,
             length: 0,
             steps: 0,
+            floor: 0,
         };
     }
     search::search(

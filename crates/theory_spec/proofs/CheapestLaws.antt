@@ -2,7 +2,7 @@
 -- other.
 -- Assumes nothing.
 use mathlib.Core.Path.{_≡_, refl, sym, ap, _∙_, subst}
-use mathlib.Core.Logic.{_⊎_, inl, inr, _≢_}
+use mathlib.Core.Logic.{_⊎_, _↔_, inl, inr, _≢_}
 use mathlib.Core.Bool.{Bool, true, false, cond}
 use mathlib.Core.Option.{Option, some, none, Option·some-injective, Option·none-ne-some, Option·some-ne-none}
 use mathlib.Core.List.{List, [], _∷_, _++_}
@@ -30,6 +30,12 @@ module _ (cost : ℕ → ℕ) where
           → Preferred cost p q
       go (inl e) = inl (ltb-true (costOf cost p) (costOf cost q) e)
       go (inr e) = let l = ltb-false (costOf cost p) (costOf cost q) e in inr (omega arith, k)
+
+  -- what is preferred costs no more
+  pub preferred-cost : (p q : Sequence) → (q ≡ p) ⊎ Preferred cost p q → costOf cost p ≤ costOf cost q
+  preferred-cost p q (inl e) = omega (arith, ap (costOf cost) e)
+  preferred-cost p q (inr (inl h)) = omega arith
+  preferred-cost p q (inr (inr h)) = omega (arith, h .0)
 
   pub preferred-irrefl : (p : Sequence) → Preferred cost p p → ⊥
   preferred-irrefl p (inl h) = omega arith
@@ -137,3 +143,14 @@ module _ (cost : ℕ → ℕ) where
 
       others : (q : Sequence) → q ∈ l → (q ≡ p) ⊎ Preferred cost p q
       others q d = at q (List·Memᴰ·append-cases (w .0) (subst (λ k. q ∈ k) (w .2) d))
+
+  -- the same where a property says what is in the list
+  module _ (l : List Sequence) (ordered : Pairwise Before l) {P : Sequence → Type 0}
+      (member : (q : Sequence) → (q ∈ l) ↔ P q) where
+    pub cheapest-among : (p : Sequence) → cheapest cost l ≡ some p → P p
+        × ((q : Sequence) → P q → (q ≡ p) ⊎ Preferred cost p q)
+    cheapest-among p e =
+        let least = cheapest-least l ordered p e in (member p .0 (least .0), λ q h. least .1 q (member q .1 h))
+
+    pub none-among : cheapest cost l ≡ none → (q : Sequence) → P q → ⊥
+    none-among e q h = List·Memᴰ·not-nil (subst (λ k. q ∈ k) (cheapest-none l e) (member q .1 h))

@@ -2,30 +2,61 @@
 -- extensions, by one rule, of what it did.
 -- Assumes nothing.
 use mathlib.Core.Path.{_≡_, refl, sym, ap, _∙_, subst}
-use mathlib.Core.Logic.{_⊎_, inl, inr}
-use mathlib.Core.Bool.{true, false}
+use mathlib.Core.Logic.{_⊎_, _↔_, inl, inr}
+use mathlib.Core.Bool.{true, false, false≢true}
 use mathlib.Core.List.{List, [], _∷_, _++_, append-assoc, append-nil}
 use mathlib.Core.List.{List·Memᴰ·head, List·Memᴰ·tail, List·Memᴰ·not-nil, List·Memᴰ·append-cases, Memᴰ·append-right}
-use Prim.Native.Nat.{ℕ, zero, suc, _+_, _≤_, min}
+use Prim.Native.Nat.{ℕ, _≤_, _<_, min}
 use native.Mathlib.Omega.{arith}
-use lib.ListN.{take}
-use Rattle.theory_spec.specs.Lists.{_∈_, same, Pairwise}
+use Rattle.theory_spec.specs.Lists.{_∈_, same}
 use Rattle.theory_spec.specs.Sequences.{Sequence, costOf}
-use Rattle.theory_spec.specs.how.Recursion.{leastCost, initial, isIn, frontier}
+use Rattle.theory_spec.specs.Frontier.{isIn, initial, extendsOne, frontier, leastCost}
 use Rattle.theory_spec.proofs.ListLaws.{here, in-keep, of-keep, any-true, true-any, same-true, same-refl}
 use Rattle.theory_spec.proofs.ListLaws.{passes?, not-both}
 use Rattle.theory_spec.proofs.SequenceLaws.{cost-append}
+use Rattle.theory_spec.proofs.TestLaws.{below?}
 
 initial-snoc : (x : Sequence) (r : ℕ) → initial (x ++ (r ∷ [])) ≡ x
 initial-snoc [] r = refl
 initial-snoc (p ∷ []) r = refl
 initial-snoc (p ∷ s ∷ x) r = ap {B = Sequence} (λ q. p ∷ q) (initial-snoc (s ∷ x) r)
 
+-- a sequence of one rule or more is the rest of it and a last rule
+last-rule : (r : ℕ) (q : Sequence) → (s : ℕ) × ((r ∷ q) ≡ (initial (r ∷ q) ++ (s ∷ [])))
+last-rule r [] = (r, refl)
+last-rule r (s ∷ q) = let w = last-rule s q in (w .0, ap {B = Sequence} (λ l. r ∷ l) (w .1))
+
 pub in-is : {l : List Sequence} {q : Sequence} → q ∈ l → isIn l q ≡ true
 in-is {l} {q} d = true-any (same q) d (same-refl q)
 
 pub is-in : (l : List Sequence) (q : Sequence) → isIn l q ≡ true → q ∈ l
 is-in l q h = let w = any-true (same q) l h in subst (λ (p : Sequence). p ∈ l) (sym (same-true q (w .0) (w .2))) (w .1)
+
+-- ── The frontier ─────────────────────────────────────────────────────────────────────────────────
+
+snoc-extends : (l : List Sequence) (x : Sequence) (r : ℕ) → x ∈ l → extendsOne l (x ++ (r ∷ [])) ≡ true
+snoc-extends l [] r d = in-is d
+snoc-extends l (p ∷ x) r d = ap (isIn l) (initial-snoc (p ∷ x) r) ∙ in-is d
+
+-- q is one of a list with a single rule more
+abbrev pub OneMore : List Sequence → Sequence → Type 0
+OneMore l q = (x : Sequence) × (r : ℕ) × (x ∈ l) × (q ≡ (x ++ (r ∷ [])))
+
+extends-iff : (l : List Sequence) (q : Sequence) → (extendsOne l q ≡ true) ↔ OneMore l q
+extends-iff l q = (down q, λ w. ap (extendsOne l) (w .3) ∙ snoc-extends l (w .0) (w .1) (w .2))
+  where
+    down : (q : Sequence) → extendsOne l q ≡ true → OneMore l q
+    down [] h = absurd (false≢true h)
+    down (r ∷ q) h = let w = last-rule r q in (initial (r ∷ q), w .0, is-in l (initial (r ∷ q)) h, w .1)
+
+-- the frontier is what of the rest extends one that is looked at by a single rule
+pub frontier-iff : (looked rest : List Sequence) (q : Sequence)
+    → (q ∈ frontier looked rest) ↔ ((q ∈ rest) × OneMore looked q)
+frontier-iff looked rest q = (
+  λ d. let w = of-keep (extendsOne looked) rest d in
+      (w .0, extends-iff looked q .0 (w .1)),
+  λ w. in-keep (extendsOne looked) (w .0) (extends-iff looked q .1 (w .1)),
+)
 
 -- ── The least cost ───────────────────────────────────────────────────────────────────────────────
 
@@ -44,6 +75,19 @@ module _ (cost : ℕ → ℕ) (c : ℕ) where
       → b ≤ leastCost cost c l
   least-greatest b [] h k = h
   least-greatest b (q ∷ l) h k = omega (arith, k q (here q l), least-greatest b l h (λ p d. k p (List·Memᴰ·tail d)))
+
+  -- it is c, or what one of them costs
+  abbrev pub Reached : List Sequence → Type 0
+  Reached l = (leastCost cost c l ≡ c) ⊎ ((q : Sequence) × (q ∈ l) × (leastCost cost c l ≡ costOf cost q))
+
+  pub least-reached : (l : List Sequence) → Reached l
+  least-reached [] = inl refl
+  least-reached (q ∷ l) = go (below? (leastCost cost c l) (costOf cost q)) (least-reached l)
+    where
+      go : (leastCost cost c l < costOf cost q) ⊎ (costOf cost q ≤ leastCost cost c l) → Reached l → Reached (q ∷ l)
+      go (inl k) (inl e) = inl (omega arith)
+      go (inl k) (inr w) = inr (w .0, List·Memᴰ·tail (w .1), omega (arith, w .2))
+      go (inr k) _ = inr (q, here q l, omega arith)
 
 -- a lower start
 pub least-min : (cost : ℕ → ℕ) (c x : ℕ) (l : List Sequence) → leastCost cost (min c x) l ≡ min x (leastCost cost c l)
@@ -84,8 +128,7 @@ module _ (cost : ℕ → ℕ) (looked rest : List Sequence) (first : [] ∈ look
       let p = w .0 ++ (w .1 ∷ []) in
       let member = closed p (w .2) (subst (λ (l : Sequence). l ∈ (looked ++ rest)) (w .3) d) in (
         p,
-        in-keep (λ q. isIn looked (initial q)) (unlooked p member (w .5))
-            (ap (isIn looked) (initial-snoc (w .0) (w .1)) ∙ in-is (w .4)),
+        frontier-iff looked rest p .1 (unlooked p member (w .5), (w .0, w .1, w .4, refl)),
         omega (arith, cost-append cost p (w .2), ap (costOf cost) (w .3)),
       )
     where
@@ -101,23 +144,9 @@ module _ (cost : ℕ → ℕ) (looked rest : List Sequence) (first : [] ∈ look
       → leastCost cost c rest ≡ leastCost cost c (frontier looked rest)
   least-frontier apart c =
       let down = least-greatest cost c (leastCost cost c rest) (frontier looked rest) (least-start cost c rest)
-      (λ q d. least-below cost c rest (of-keep (λ q. isIn looked (initial q)) rest d .0)) in
+      (λ q d. least-below cost c rest (frontier-iff looked rest q .0 d .0)) in
       let up =
       least-greatest cost c (leastCost cost c (frontier looked rest)) rest (least-start cost c (frontier looked rest))
       (λ q d. let w = front-of q (Memᴰ·append-right looked d) (apart q d) in
       omega (arith, least-below cost c (frontier looked rest) (w .1), w .2)) in
       omega arith
-
--- ── The first of a list ──────────────────────────────────────────────────────────────────────────
-
-module _ {A : Type 0} where
-  pub of-take : (n : ℕ) (l : List A) {a : A} → a ∈ take n l → a ∈ l
-  of-take zero l d = absurd (List·Memᴰ·not-nil d)
-  of-take (suc n) [] d = absurd (List·Memᴰ·not-nil d)
-  of-take (suc n) (x ∷ l) (List·Memᴰ·head e) = List·Memᴰ·head e
-  of-take (suc n) (x ∷ l) (List·Memᴰ·tail d) = List·Memᴰ·tail (of-take n l d)
-
-  pub pairwise-take : (R : A → A → Type 0) (n : ℕ) (l : List A) → Pairwise R l → Pairwise R (take n l)
-  pairwise-take R zero l h = tt
-  pairwise-take R (suc n) [] h = tt
-  pairwise-take R (suc n) (x ∷ l) h = (λ y d. h .0 y (of-take n l d), pairwise-take R n l (h .1))

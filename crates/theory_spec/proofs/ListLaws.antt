@@ -2,17 +2,17 @@
 -- where it is `≡ true`.
 -- Assumes nothing.
 use mathlib.Core.Path.{_≡_, refl, sym, ap, ap₂, _∙_, subst}
-use mathlib.Core.Logic.{_⊎_, inl, inr}
+use mathlib.Core.Logic.{_⊎_, _↔_, inl, inr}
 use mathlib.Core.Bool.{Bool, true, false, _&&_, _||_, true≢false, false≢true, or-assoc}
 use mathlib.Core.Option.{Option, some, none}
 use mathlib.Core.List.{List, [], _∷_, _++_, map, append-assoc, map-append}
 use mathlib.Core.List.{List·Memᴰ·head, List·Memᴰ·tail, Memᴰ·append-left, Memᴰ·append-right, List·Memᴰ·append-cases}
-use mathlib.Core.List.{Memᴰ·of-map}
+use mathlib.Core.List.{List·Memᴰ·not-nil, Memᴰ·of-map}
 use Prim.Native.Nat.{ℕ, zero, suc, _+_, _-_, _≤_, _<_}
 use lib.Dec.{eqb}
 use borrow.Author.Tests.{eqb-true, eqb-false, eq-eqb}
 use native.Mathlib.Omega.{arith}
-use lib.ListN.{length, getD, replicate, length-append, length-replicate}
+use lib.ListN.{length, getD, take, drop, replicate, length-append, length-replicate, take-append-drop}
 use Rattle.theory_spec.specs.Lists.{_∈_, keepIf, keep, any, every, Pairwise, isSome, padded, flat}
 use Rattle.theory_spec.specs.how.Folds.{foldOver}
 use Rattle.theory_spec.specs.Lists.{numbersFrom, same}
@@ -267,11 +267,49 @@ module _ {A B : Type 0} where
       go : (b b′ : B) → b ∈ f x → ((a : A) × (a ∈ xs) × (b′ ∈ f a)) → S b b′
       go b b′ d w = h x (w .0) (o .0 (w .0) (w .1)) b b′ d (w .2)
 
+-- ── The first of a list, and the others ────────────────────────────────────────────────────────────
+
+module _ {A : Type 0} where
+  pub of-take : (n : ℕ) (l : List A) {a : A} → a ∈ take n l → a ∈ l
+  of-take zero l d = absurd (List·Memᴰ·not-nil d)
+  of-take (suc n) [] d = absurd (List·Memᴰ·not-nil d)
+  of-take (suc n) (x ∷ l) (List·Memᴰ·head e) = List·Memᴰ·head e
+  of-take (suc n) (x ∷ l) (List·Memᴰ·tail d) = List·Memᴰ·tail (of-take n l d)
+
+  pub of-drop : (n : ℕ) (l : List A) {a : A} → a ∈ drop n l → a ∈ l
+  of-drop zero l d = d
+  of-drop (suc n) [] d = absurd (List·Memᴰ·not-nil d)
+  of-drop (suc n) (x ∷ l) d = List·Memᴰ·tail (of-drop n l d)
+
+  -- what is in a list is among the first or among the others
+  pub take-or-drop : (n : ℕ) (l : List A) {a : A} → a ∈ l → (a ∈ take n l) ⊎ (a ∈ drop n l)
+  take-or-drop n l {a} d = List·Memᴰ·append-cases (take n l) (subst (λ k. a ∈ k) (sym (take-append-drop n l)) d)
+
+  -- each of the first is in relation R to each of the others
+  pub pairwise-across : (R : A → A → Type 0) (n : ℕ) (l : List A) → Pairwise R l → {a b : A}
+      → a ∈ take n l → b ∈ drop n l → R a b
+  pairwise-across R zero l h d k = absurd (List·Memᴰ·not-nil d)
+  pairwise-across R (suc n) [] h d k = absurd (List·Memᴰ·not-nil d)
+  pairwise-across R (suc n) (x ∷ l) h {a} {b} (List·Memᴰ·head e) k =
+      subst (λ (y : A). R y b) (sym e) (h .0 b (of-drop n l k))
+  pairwise-across R (suc n) (x ∷ l) h (List·Memᴰ·tail d) k = pairwise-across R n l (h .1) d k
+
+  pub pairwise-take : (R : A → A → Type 0) (n : ℕ) (l : List A) → Pairwise R l → Pairwise R (take n l)
+  pairwise-take R zero l h = tt
+  pairwise-take R (suc n) [] h = tt
+  pairwise-take R (suc n) (x ∷ l) h = (λ y d. h .0 y (of-take n l d), pairwise-take R n l (h .1))
+
 -- ── What is there ────────────────────────────────────────────────────────────────────────────────
 
 pub of-isSome : {A : Type 0} (o : Option A) → isSome o ≡ true → (t : A) × (o ≡ some t)
 of-isSome none h = absurd (false≢true h)
 of-isSome (some t) h = (t, refl)
+
+-- what may be there is there exactly if something has a property that it has, and that nothing has where it is not
+pub there-iff : {A : Type 0} {P : A → Type 0} (o : Option A) → ((t : A) → o ≡ some t → P t)
+    → (o ≡ none → (t : A) → P t → ⊥) → (isSome o ≡ true) ↔ ((t : A) × P t)
+there-iff none there none-there = (λ h. absurd (false≢true h), λ w. absurd (none-there refl (w .0) (w .1)))
+there-iff (some t) there none-there = (λ _. (t, there t refl), λ _. refl)
 
 -- ── Numbers from a number on ─────────────────────────────────────────────────────────────────────
 

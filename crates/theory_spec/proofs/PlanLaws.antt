@@ -18,13 +18,14 @@ use Rattle.theory_spec.specs.Order.{LexBefore, Before}
 use Rattle.theory_spec.specs.Plans.{reaches, isPlan, candidates, cheapest, Preferred, allowed, isVisited, visited}
 use Rattle.theory_spec.specs.how.Firsts.{Least}
 use Rattle.theory_spec.specs.how.Pruning.{Closed, Justified}
-use Rattle.theory_spec.specs.how.Recursion.{better, improved, best, isIn}
+use Rattle.theory_spec.specs.Frontier.{isIn}
+use Rattle.theory_spec.specs.how.Recursion.{better, improved, best}
 use Rattle.theory_spec.proofs.ListLaws.{or-split, or-left, or-right, and-split, and-join, here, in-keep, of-keep}
-use Rattle.theory_spec.proofs.ListLaws.{pairwise-keep, passes?, not-both}
+use Rattle.theory_spec.proofs.ListLaws.{of-take, pairwise-take, pairwise-keep, passes?, not-both}
 use Rattle.theory_spec.proofs.SequenceLaws.{of-sequences, in-sequences, of-depthFirst, in-depthFirst}
 use Rattle.theory_spec.proofs.OrderLaws.{sequences-ordered, depthFirst-ordered}
 use Rattle.theory_spec.proofs.CheapestLaws.{preferred-trans, least-unique, cheapest-none, cheapest-least}
-use Rattle.theory_spec.proofs.FloorLaws.{in-is, is-in, of-take, pairwise-take}
+use Rattle.theory_spec.proofs.FloorLaws.{in-is, is-in}
 use Rattle.theory_spec.proofs.PruningLaws.{in-endsIn, of-plan, cheapest-not-pruned}
 use Rattle.theory_spec.proofs.VisitLaws.{of-allowed, in-allowed}
 
@@ -217,7 +218,7 @@ module _ {A : Type 0} (step : ℕ → A → Option A) (cost : ℕ → ℕ) (m : 
       (λ p e. plans-found p (cheapest-least cost plans ordered p e .0) (passes p e))
 
   -- the best of the first n that it visits is the cheapest of the plans among these
-  pub best-looked : (n : ℕ)
+  best-looked : (n : ℕ)
       → best cost (reaches step start goal) none (take n (keep good (depthFirst m maxMoves)))
       ≡ cheapest cost (keep (isIn (take n (keep good (depthFirst m maxMoves))))
       (candidates step cost m start goal maxMoves maxCost))
@@ -250,6 +251,22 @@ module _ {A : Type 0} (step : ℕ → A → Option A) (cost : ℕ → ℕ) (m : 
           in-keep (reaches step start goal) (is-in looked p (u .1))
           (and-split (reaches step start goal p) (leb (costOf cost p) maxCost) (w .1) .0)
 
+-- a search that visits what marks leave
+module _ {A : Type 0} (step : ℕ → A → Option A) (cost : ℕ → ℕ) (m : ℕ) (marked : Sequence → Bool) (start : A)
+    (goal : A → Bool) (maxMoves maxCost : ℕ) where
+  visited-bounded : (q : Sequence) → isVisited step cost marked start maxCost q ≡ true → costOf cost q ≤ maxCost
+  visited-bounded q h =
+      of-allowed cost marked maxCost q
+      (and-split (isSome (run step q start)) (allowed cost marked maxCost q) h .1) .0
+
+  -- the best of the first n visits is the cheapest of the plans among these
+  pub best-first : (n : ℕ)
+      → best cost (reaches step start goal) none (take n (visited step cost m marked start maxMoves maxCost))
+      ≡ cheapest cost (keep (isIn (take n (visited step cost m marked start maxMoves maxCost)))
+      (candidates step cost m start goal maxMoves maxCost))
+  best-first =
+      best-looked step cost m start goal maxMoves maxCost (isVisited step cost marked start maxCost) visited-bounded
+
 -- a search that visits what justified marks leave
 module _ {A : Type 0} (step : ℕ → A → Option A) (cost : ℕ → ℕ) (m : ℕ) (Valid : A → Type 0)
     (closed : Closed step m Valid)
@@ -271,5 +288,4 @@ module _ {A : Type 0} (step : ℕ → A → Option A) (cost : ℕ → ℕ) (m : 
       ≡ cheapest cost (candidates step cost m start goal maxMoves maxCost)
   best-cheapest =
       best-of-good step cost m start goal maxMoves maxCost (isVisited step cost marked start maxCost)
-      (λ q h. of-allowed cost marked maxCost q (and-split (isSome (run step q start))
-      (allowed cost marked maxCost q) h .1) .0) cheapest-visited
+      (visited-bounded step cost m marked start goal maxMoves maxCost) cheapest-visited

@@ -8,10 +8,11 @@ use mathlib.Core.List.{List}
 use Prim.Native.Nat.{ℕ, zero, suc, _+_, _≤_, _<_}
 use lib.Dec.{leb, ltb, eqb}
 use native.Mathlib.Omega.{arith}
-use borrow.Author.Tests.{leb-true, le-leb, ltb-true, ltb-false, lt-ltb, eqb-true, eqb-false, eq-eqb}
+use borrow.Author.Tests.{leb-true, le-leb, ltb-true, ltb-false, lt-ltb, eqb-true, eqb-false, eq-eqb, not-false}
 use Rattle.theory_spec.specs.Lists.{_∈_, any, every, numbersFrom, within, same}
 use Rattle.theory_spec.specs.how.Firsts.{firstThat}
-use Rattle.theory_spec.proofs.ListLaws.{not-both, and-split, and-join, every-at, true-every, any-true, true-any}
+use Rattle.theory_spec.proofs.ListLaws.{not-both, never-true, and-split, and-join, every-at, true-every}
+use Rattle.theory_spec.proofs.ListLaws.{any-true, true-any}
 use Rattle.theory_spec.proofs.ListLaws.{of-numbersFrom, in-numbersFrom, same-true, same-refl}
 
 -- a number is below another or not
@@ -45,6 +46,13 @@ same-iff a b = (same-true a b, λ e. subst (λ l. same a l ≡ true) e (same-ref
 pub not-iff : (a : Bool) {P : Type 0} → (a ≡ true) ↔ P → (not a ≡ true) ↔ (P → ⊥)
 not-iff true i = (λ e p. false≢true e, λ h. absurd (h (i .0 refl)))
 not-iff false i = (λ e p. false≢true (i .1 p), λ h. refl)
+
+-- a test fails exactly if its statement does not hold, and the test of its failing exactly if it does
+pub fails-iff : (a : Bool) {P : Type 0} → (a ≡ true) ↔ P → (a ≡ false) ↔ (P → ⊥)
+fails-iff a i = (λ e p. not-both (i .1 p) e, λ n. never-true a (λ e. n (i .0 e)))
+
+pub unfailed-iff : (a : Bool) {P : Type 0} → (a ≡ true) ↔ P → (not a ≡ false) ↔ P
+unfailed-iff a i = (λ e. i .0 (not-false a e), λ p. ap not (i .1 p))
 
 pub and-iff : (a b : Bool) {P Q : Type 0} → (a ≡ true) ↔ P → (b ≡ true) ↔ Q → ((a && b) ≡ true) ↔ (P × Q)
 and-iff a b i j =

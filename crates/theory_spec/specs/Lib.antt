@@ -4,4 +4,5 @@ pub mod Sequences
 pub mod Order
 pub mod Pruning
 pub mod Plans
+pub mod Frontier
 pub mod how

@@ -25,8 +25,8 @@ ghost use lib.ListN.{take};
 ghost use Rattle.search_spec.specs.Query.{asked};
 ghost use Rattle.search_laws.specs.how.Visits.{Lent, Reached, visitsFrom, exploration};
 
-// The floor while no sequence beyond the limit is met: no cost is larger.
-const NO_FLOOR: u16 = 65535;
+// The least cost beyond the limit while no sequence there is met: no cost is larger.
+const TOP_COST: u16 = 65535;
 
 // Visits a sequence and all that extends it by at most `left` moves: the first `depth` moves of the plan, which have
 // led to the state at that cost. Beyond the limit it extends no sequence.
@@ -128,7 +128,7 @@ pub fn explored(
         steps: 0,
         exceeded: false,
         best,
-        floor: NO_FLOOR,
+        least: TOP_COST,
     };
     if refusal != 0 {
         return Exploration {

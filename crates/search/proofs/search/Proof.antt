@@ -12,12 +12,12 @@ use Rattle.model_spec.specs.declared.RuleSet.{RuleSet}
 use Rattle.model_spec.proofs.BufferLaws.{filled-whole}
 use Rattle.search_spec.specs.Query.{Query, asked}
 use Rattle.search_spec.specs.Searched.{queryCauses, noMove}
-use Rattle.search_spec.proofs.OutcomeLaws.{withoutPlan, searched-refused}
+use Rattle.search_spec.proofs.Demand.{withoutPlan}
+use Rattle.search_spec.proofs.OutcomeLaws.{searched-refused}
 use Rattle.search_laws.specs.how.Visits.{wholeProgress, exploration}
 use Rattle.search_laws.specs.declared.Progress.{Progress}
 use Rattle.search_laws.proofs.ExploredLaws.{explored-refusal, explored-progress}
-use Rattle.search_laws.proofs.AnswerLaws.{leftWith, answers, explored-limited, explored-unsolvable, explored-room}
-use Rattle.search_laws.proofs.AnswerLaws.{explored-solved}
+use Rattle.search_laws.proofs.AnswerLaws.{leftWith, answers, explored-planless, explored-room, explored-shown}
 use Rattle.search.proofs.search.Statement.{statement}
 use Rattle.search.proofs.search.Tie as tie
 
@@ -46,11 +46,11 @@ startOf c = entryOf (filledAt c .before)
 abbrev judgedAt : tie.Else1 → tie.After-explored
 judgedAt c = c .before .before
 
-abbrev posedAt : tie.Else2 → tie.Else1
-posedAt c = c .before .before
+abbrev posedAt : tie.After-outcome-of → tie.Else1
+posedAt c = c .before .before .before
 
-abbrev underAt : tie.Else3 → tie.Else2
-underAt c = c .before .before .before
+abbrev toldAt : tie.Else2 → tie.After-outcome-of
+toldAt c = c .before .before
 
 -- the progress that the search comes to
 abbrev progressOf : tie.Else1 → Progress
@@ -104,6 +104,9 @@ visited c =
     let s = startOf (judgedAt c) in
     explored-progress (setOf s) (queryOf s) (roomOf s) _ (explores (judgedAt c)) (c .if1 .left)
 
+outcome-of-requires : tie.Need-outcome-of-requires
+outcome-of-requires c κs = search needs
+
 without-plan-requires-2 : tie.Need-without-plan-requires-2
 without-plan-requires-2 c κs = search needs
 
@@ -112,65 +115,52 @@ same-length-2 c = search needs
 
 returns-2 : tie.Need-returns-2
 returns-2 c =
-    let posed = c .before .before .before in
+    let told = c .before .before .before in
+    let posed = posedAt told in
     let judged = judgedAt posed in
     let s = startOf judged in
-    let found = explored-limited (setOf s) (queryOf s) (roomOf s) (unrefused posed) (progressOf posed) (visited posed)
-    (c .before .if2 .taken) in
+    let none = not-true (progressOf posed .best .found) (c .before .if2 .taken) in
+    let found = explored-planless (setOf s) (queryOf s) (roomOf s) (unrefused posed) (progressOf posed) (visited posed)
+    _ (told .outcome-of .ensures) none in
     answers (setOf s) (queryOf s) (roomOf s) _ _ _ (c .without-plan2 .ensures) (blank judged) found
 
-without-plan-requires-3 : tie.Need-without-plan-requires-3
-without-plan-requires-3 c κs = search needs
+-- past the second, a plan is found
+plan-found : (c : tie.Else2) → progressOf (posedAt (toldAt c)) .best .found ≡ true
+plan-found c = not-false (progressOf (posedAt (toldAt c)) .best .found) (c .if2 .left)
+
+floor-shown-requires : tie.Need-floor-shown-requires
+floor-shown-requires c κs = search needs
+
+abbrev shownAt : tie.After-put-moves-arg → tie.After-floor-shown
+shownAt c = c .before .before .before
+
+put-moves-requires : tie.Need-put-moves-requires
+put-moves-requires c κs =
+    let passed = shownAt c .before in
+    let posed = posedAt (toldAt passed) in
+    let judged = judgedAt posed in
+    let s = startOf judged in
+    let room = explored-room (setOf s) (queryOf s) (roomOf s) (unrefused posed) (progressOf posed) (visited posed)
+    (plan-found passed) in
+    (room .0, subst (λ n. progressOf posed .best .length ≤ n) (sym (sized judged)) (room .1))
 
 same-length-3 : tie.Need-same-length-3
 same-length-3 c = search needs
 
 returns-3 : tie.Need-returns-3
 returns-3 c =
-    let best = c .before .before .before in
-    let under = best .before in
-    let posed = posedAt under in
-    let judged = judgedAt posed in
-    let s = startOf judged in
-    let none = not-true (progressOf posed .best .found) (c .before .if3 .taken) in
-    let found = explored-unsolvable (setOf s) (queryOf s) (roomOf s) (unrefused posed) (progressOf posed)
-    (visited posed) (under .if2 .left) none in
-    answers (setOf s) (queryOf s) (roomOf s) _ _ _ (c .without-plan3 .ensures) (blank judged) found
-
--- past the third, a plan is found
-plan-found : (c : tie.Else3) → progressOf (posedAt (underAt c)) .best .found ≡ true
-plan-found c = not-false (progressOf (posedAt (underAt c)) .best .found) (c .if3 .left)
-
-abbrev solvedAt : tie.After-put-moves-arg → tie.Else3
-solvedAt c = c .before .before .before
-
-put-moves-requires : tie.Need-put-moves-requires
-put-moves-requires c κs =
-    let solved = solvedAt c in
-    let under = underAt solved in
-    let posed = posedAt under in
-    let judged = judgedAt posed in
-    let s = startOf judged in
-    let room = explored-room (setOf s) (queryOf s) (roomOf s) (unrefused posed) (progressOf posed) (visited posed)
-    (under .if2 .left) (plan-found solved) in
-    (room .0, subst (λ n. progressOf posed .best .length ≤ n) (sym (sized judged)) (room .1))
-
-same-length-4 : tie.Need-same-length-4
-same-length-4 c = search needs
-
-returns-4 : tie.Need-returns-4
-returns-4 c =
     let put = c .before .before in
-    let solved = solvedAt (put .before) in
-    let under = underAt solved in
-    let posed = posedAt under in
+    let shown = shownAt (put .before) in
+    let told = toldAt (shown .before) in
+    let posed = posedAt told in
     let judged = judgedAt posed in
     let s = startOf judged in
     let progress = progressOf posed in
     let buffer = filledAt judged .fill-from .last .0 in
-    let found = explored-solved (setOf s) (queryOf s) (roomOf s) (unrefused posed) progress (visited posed)
-    (under .if2 .left) (plan-found solved) buffer (blank judged) in
-    answers (setOf s) (queryOf s) (roomOf s) _ _ (leftWith (progress .best) (progress .steps) buffer) refl
+    let found = explored-shown (setOf s) (queryOf s) (roomOf s) (unrefused posed) progress (visited posed)
+    (plan-found (shown .before)) _ _ (told .outcome-of .ensures) (shown .floor-shown .ensures) buffer (blank judged) in
+    answers (setOf s) (queryOf s) (roomOf s) _ _
+    (leftWith (told .outcome-of .result) (progress .best) (progress .steps) (shown .floor-shown .result) buffer) refl
     (put .put-moves .ensures) found
 
 pub search-spec : {M : Type 1} → statement M
@@ -182,12 +172,11 @@ search-spec =
     without-plan-requires
     same-length
     returns
+    outcome-of-requires
     without-plan-requires-2
     same-length-2
     returns-2
-    without-plan-requires-3
-    same-length-3
-    returns-3
+    floor-shown-requires
     put-moves-requires
-    same-length-4
-    returns-4)
+    same-length-3
+    returns-3)

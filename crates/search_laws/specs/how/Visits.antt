@@ -12,7 +12,8 @@ use Rattle.theory_spec.specs.Lists.{onlyIf, padded, same}
 use Rattle.theory_spec.specs.Sequences.{Sequence, costOf, Numbered}
 use Rattle.theory_spec.specs.how.Indices.{indexOf}
 use Rattle.theory_spec.specs.Plans.{reaches}
-use Rattle.theory_spec.specs.how.Recursion.{last, exploreWith, best, leastCost}
+use Rattle.theory_spec.specs.Frontier.{leastCost}
+use Rattle.theory_spec.specs.how.Recursion.{last, exploreWith, best}
 use Rattle.model_spec.specs.Limits.{maxPositions, placeCount, maxRules, moveLimit}
 use Rattle.model_spec.specs.States.{State, valuesOf, applicable, successor}
 use Rattle.model_spec.specs.Rules.{stepOf, ruleCost, sequenceCost}
@@ -76,12 +77,12 @@ bestAt goal cost n moves s former =
     former
 
 -- what visiting a sequence, whose n moves stand in an array, makes of the progress: one step more, if the limit allows
--- it; else the limit is exceeded, and the floor is no higher than the sequence's cost
+-- it; else the limit is exceeded, and the least cost beyond it is no higher than the sequence's
 unfoldable pub notedMoves : List ℕ → ℕ → ℕ → ℕ → List ℕ → State → Progress → Progress
 notedMoves goal limit cost n moves s p =
     cond (ltb (p .steps) limit)
-    (record { steps = p .steps + 1; exceeded = false; best = bestAt goal cost n moves s (p .best); floor = p .floor })
-    (record { steps = p .steps; exceeded = true; best = p .best; floor = min (p .floor) cost })
+    (record { steps = p .steps + 1; exceeded = false; best = bestAt goal cost n moves s (p .best); least = p .least })
+    (record { steps = p .steps; exceeded = true; best = p .best; least = min (p .least) cost })
 
 -- the same for a sequence q, whose moves stand in front of a blank rest
 unfoldable pub noted : List ℕ → ℕ → ℕ → Sequence → State → Progress → Progress
@@ -89,7 +90,7 @@ noted goal limit cost q = notedMoves goal limit cost (length q) (padded moveLimi
 
 -- the progress before any sequence is visited
 unfoldable pub noProgress : Progress
-noProgress = record { steps = 0; exceeded = false; best = noBest; floor = 65535 }
+noProgress = record { steps = 0; exceeded = false; best = noBest; least = 65535 }
 
 -- the progress after the sequence q, which has led to the state s, and all that extends it by at most n rules
 unfoldable pub visitsFrom : List (List ℕ) → List (List ℕ) → List ℕ → List ℕ → List ℕ → Limits
@@ -134,7 +135,7 @@ asBest cost none = noBest
 asBest cost (some q) = bestOf (cost q) q
 
 -- the progress of the whole search: the steps are the visited sequences up to the limit; the best plan is the best of
--- these, and the floor the least cost of the others
+-- these, and beside it stands the least cost of the others
 unfoldable pub wholeProgress : RuleSet → Query → Progress
 wholeProgress set query =
     let visits = visitedBy set query in
@@ -143,8 +144,16 @@ wholeProgress set query =
       steps = min (length visits) (query .stepLimit);
       exceeded = ltb (query .stepLimit) (length visits);
       best = asBest (sequenceCost set) (best (ruleCost set) good none (take (query .stepLimit) visits));
-      floor = leastCost (ruleCost set) 65535 (drop (query .stepLimit) visits);
+      least = leastCost (ruleCost set) 65535 (drop (query .stepLimit) visits);
     }
+
+-- the outcome of a query that is not refused, by whether the limit is exceeded and whether a plan is found
+unfoldable pub outcomeOf : Bool → Bool → ℕ
+outcomeOf exceeded found = cond exceeded (cond found 18 16) (cond found 0 15)
+
+-- the floor shown beside a plan at a cost, where what is met beyond the limit costs at least so much; 0 within it
+unfoldable pub floorShown : Bool → ℕ → ℕ → ℕ
+floorShown exceeded cost least = cond exceeded (min cost least) 0
 
 -- what a query comes to: the first cause for which it is refused, and no progress; if none holds, the progress of the
 -- whole search

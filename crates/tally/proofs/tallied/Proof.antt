@@ -20,6 +20,9 @@ raised-if-requires c κs = search needs
 raised-if-requires-2 : tie.Need-raised-if-requires-2
 raised-if-requires-2 c κs = search needs
 
+is-limited-requires : tie.Need-is-limited-requires
+is-limited-requires c κs = search needs
+
 raised-if-requires-3 : tie.Need-raised-if-requires-3
 raised-if-requires-3 c κs = search needs
 
@@ -36,12 +39,14 @@ returns : tie.Need-returns
 unfolding talliedOf
 returns c =
     let third = c .before .before .before in
-    let first = third .before .before in
+    let limited = third .before in
+    let first = limited .before .before in
     let a = first .before .args in
     told (a .tally) (a .outcome) (a .steps) _
     (simp (
       first .raised-if .ensures,
-      third .before .raised-if2 .ensures,
+      limited .before .raised-if2 .ensures,
+      limited .is-limited .ensures,
       third .raised-if3 .ensures,
       c .before .before .is-refusal .ensures,
       c .before .raised-if4 .ensures,
@@ -54,6 +59,7 @@ tallied-spec =
     (tie.spec
     raised-if-requires
     raised-if-requires-2
+    is-limited-requires
     raised-if-requires-3
     is-refusal-requires
     raised-if-requires-4

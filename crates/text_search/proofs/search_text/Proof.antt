@@ -38,12 +38,15 @@ startOf c = knownOf (c .before) .before .before
 module _ (text : List ℕ) (query : Query) (room : ℕ) (file : Reading) (e : file ≡ reading text) where
   refused : file .outcome ≢ 0 → (plan : List ℕ) → plan ≡ replicate room noMove
       → searchedText text query room
-      ≡ record { answer = record { outcome = file .outcome; cost = 0; length = 0; steps = 0 }; plan = plan }
+      ≡ record { answer = record { outcome = file .outcome; cost = 0; length = 0; steps = 0; floor = 0 }; plan = plan }
   unfolding textRefused
   refused n plan p =
       let o = ap (λ (f : Reading). f .outcome) e in
       refused-text text query room (λ z. n (o ∙ z))
-      ∙ (λ i. record { answer = record { outcome = sym o i; cost = 0; length = 0; steps = 0 }; plan = sym p i })
+      ∙ (λ i. record {
+        answer = record { outcome = sym o i; cost = 0; length = 0; steps = 0; floor = 0 };
+        plan = sym p i;
+      })
 
   read : file .outcome ≡ 0 → (found : Searched) → searched (file .set) query room ≡ found
       → searchedText text query room ≡ found

@@ -3,10 +3,10 @@
 use mathlib.Core.Bool.{Bool, not, cond, _&&_, _||_}
 use mathlib.Core.Option.{Option, some, none}
 use mathlib.Core.List.{List, [], _∷_, _++_}
-use Prim.Native.Nat.{ℕ, zero, suc, _-_, min}
+use Prim.Native.Nat.{ℕ, zero, suc, _-_}
 use lib.Dec.{leb, ltb, eqb}
 use lib.ListN.{length, drop}
-use Rattle.theory_spec.specs.Lists.{any, keep, flat, same}
+use Rattle.theory_spec.specs.Lists.{any, keep, flat}
 use Rattle.theory_spec.specs.how.Folds.{foldOver}
 use Rattle.theory_spec.specs.Sequences.{Sequence, costOf, numbers}
 
@@ -64,13 +64,6 @@ bestAfter cost good q c = cond (good q) (improved cost q c) c
 abbrev pub best : (ℕ → ℕ) → (Sequence → Bool) → Option Sequence → List Sequence → Option Sequence
 best cost good = foldOver (bestAfter cost good)
 
--- ── The least cost ───────────────────────────────────────────────────────────────────────────────
-
--- the least of c and of what the sequences of a list cost
-abbrev pub leastCost : (ℕ → ℕ) → ℕ → List Sequence → ℕ
-leastCost cost c [] = c
-leastCost cost c (q ∷ l) = min (costOf cost q) (leastCost cost c l)
-
 -- ── The recursion that carries something along ───────────────────────────────────────────────────
 
 -- go on from the state that a rule leads to, where there is one and it passes the test; else keep c
@@ -87,19 +80,3 @@ exploreWith step m may note (suc n) q s c =
     (λ r c′. enterWith c′ (may (q ++ (r ∷ []))) (step r s) (λ t. exploreWith step m may note n (q ++ (r ∷ [])) t c′))
     (note q s c)
     (numbers m)
-
--- ── What lies beyond the limit ───────────────────────────────────────────────────────────────────
-
--- without its last rule
-abbrev pub initial : Sequence → Sequence
-initial [] = []
-initial (r ∷ []) = []
-initial (r ∷ s ∷ q) = r ∷ initial (s ∷ q)
-
--- the sequence is one of a list
-abbrev pub isIn : List Sequence → Sequence → Bool
-isIn l q = any (same q) l
-
--- of a list of which the first ones are looked at, those others that extend one of these by a rule
-abbrev pub frontier : List Sequence → List Sequence → List Sequence
-frontier looked rest = keep (λ q. isIn looked (initial q)) rest
