@@ -9,10 +9,10 @@
 // - `t` a size and entries, as `6:7,16:12`: the table that stands is that many bytes of 255, with these values at
 //   these indices: how many marks it has
 // - `q` a reach, a start, a goal, a move bound, a cost bound, a step limit and a room: search with the table that
-//   stands and a plan buffer of `room` bytes, each 170 before: outcome, cost, length and steps; the plan's moves, as
-//   `plan_part` hands them back; whether every other byte of the buffer is 255. Start and goal have commas between
-//   their bytes, `-` is one of no bytes. A byte above 255 counts as 255, a cost bound above 65,535, a step limit
-//   above 4,294,967,295 and a room above 4,096 as these numbers
+//   stands and a plan buffer of `room` bytes, each 170 before: outcome, cost, length, steps and floor, which is 0 but
+//   at outcome 18; the plan's moves, as `plan_part` hands them back; whether every other byte of the buffer is 255.
+//   Start and goal have commas between their bytes, `-` is one of no bytes. A byte above 255 counts as 255, a cost
+//   bound above 65,535, a step limit above 4,294,967,295 and a room above 4,096 as these numbers
 // - `c` five counts with commas between, plans found, no plan, step limit exceeded, refused and steps: they are the
 //   tally that then stands: the tally. All five are 0 before the first line
 // - `k` the same as for `q`: a search that updates the tally that stands, with the first `room` bytes of the plan
@@ -25,13 +25,17 @@
 // A board of three by three cells has a position for each cell, row by row, that holds 0 for a blank (blanks are
 // alike) or the number of a tile. Its 24 rules are in the order of their names in source 000, by row, column and
 // direction, as in `cases_tables`: 1 is 11D, 5 is 12R, 9 is 21R, 19 is 31U.
-// The answers that `stdout` holds were worked out from document 01 by a script that runs every sequence within the
-// bounds, pruned or not, counts those without a marked segment and keeps the first of the cheapest that lead to the
-// goal. Where there are too many (32 moves of E and of the arrows), it keeps for each length and state the cheapest
-// sequence that leads there, the first of these, and counts the unpruned ones by state, last rules and cost;
-// elsewhere both ways were compared. Marks were tested in every state or, where there are too many, in one whose
-// free entries are all different. P1 to P5, P9 and P10 are as document 01 gives them, and the numbers of steps that
-// a heading gives were worked out by hand.
+// Of the input the first 131,072 bytes are read. A heading of request 2026-03 names wrong planners, most with
+// step limits in brackets at which they would answer otherwise; `by` names the sequence whose cost is the floor.
+// The answers that `stdout` holds were worked out from documents 01 and 02 by a script that goes through the visited
+// sequences in depth-first order, up to one above the step limit; of at most 3,000 sequences within the move bound each
+// was also tested by itself. Within the limit the plan was compared with the first of the cheapest of all sequences,
+// pruned or not: for each length and state the cheapest that leads there, the first of these. Above it each extension
+// of each looked-at sequence was tested by the definition, and the floor compared with the least cost of all visited
+// ones not looked at, but for the two of 50,000 steps. Marks were tested in the states that admit a sequence, with
+// different unknowns for its free entries, and in small sets also by running both in every state. P1, P3 to P5, P9 and
+// P10 are as document 01 gives them, P2 as request 2026-03 does. The numbers of steps that a heading gives were worked
+// out by hand, and so were its plans and floors.
 use bounded::smaller;
 use buffers::fill_from;
 use bytes::scan::find;
@@ -200,6 +204,8 @@ fn print_numbers(answer: Answer) {
     print_byte(answer.length);
     print(b"; steps ");
     print_number(answer.steps as u64);
+    print(b"; floor ");
+    print_number(answer.floor as u64);
 }
 
 // A plan of this length, and what else is in the plan buffer.
@@ -571,7 +577,7 @@ fn run_lines(input: &[u8], table: &mut [u8], plan: &mut [u8]) {
 }
 
 fn main() {
-    let mut input = io::large_buffer();
+    let mut input = [0u8; 131072];
     let mut table = io::large_buffer();
     let mut plan = io::buffer();
     fill_from(&mut plan, 0, 170);

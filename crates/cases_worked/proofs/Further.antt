@@ -30,6 +30,7 @@ use Rattle.tables_spec.specs.Table.{accepted}
 use Rattle.tables_spec.specs.Answers.{tableCauses, buildOutcome, builtBuffer, checkCauses, checkOutcome}
 use Rattle.unions_spec.specs.Unions.{markedSequences, unionOf, tableTouched, buildAnswer, checkAnswer}
 use Rattle.search_spec.specs.Query.{Query, startFits, goalFits, meetsGoal, visitedBy, plansFor}
+use Rattle.search_spec.specs.Looked.{lookedAt, cheapestLooked, frontierOf, floorBeside}
 use Rattle.search_spec.specs.Searched.{queryCauses, cheapestPlan, searchCauses, shownPlan, searchedWith, searched}
 use Rattle.search_spec.specs.PlanPart.{planPart}
 use Rattle.search_spec.specs.Tallies.{talliedOf}
@@ -40,7 +41,8 @@ use Rattle.report_spec.specs.Listing.{markedIndices, markLines, listingOf, list
 use Rattle.cases_worked.proofs.Files.{likeFirst}
 use Rattle.cases_worked.proofs.Worked.{ruleSet, fileE, E, Question, search, macroOf, compose, touch, build}
 use Rattle.cases_worked.proofs.Worked.{check, list, enter, Reply, composes, vectors, touches, builds, checks}
-use Rattle.cases_worked.proofs.Worked.{lists, packs, reply, Row, told, answer, keptBytes, markBytes, tableE}
+use Rattle.cases_worked.proofs.Worked.{lists, packs, reply, Row, told, toldAtLimit, answer, keptBytes, markBytes}
+use Rattle.cases_worked.proofs.Worked.{tableE}
 
 -- ── Macros ───────────────────────────────────────────────────────────────────────────────────────
 
@@ -336,7 +338,7 @@ searches =
     ∷ record { asked = unpruned dearerFirst (both 1) (both 0) 2 9 13; expected = told 0 2 2 13 (2 ∷ 3 ∷ []) }
     -- any value meets 255; sequences beyond a goal state count
     ∷ record { asked = unpruned dear (0 ∷ []) (255 ∷ []) 2 20 4; expected = told 0 0 0 4 (255 ∷ 255 ∷ []) }
-    ∷ record { asked = unpruned dear (0 ∷ []) (255 ∷ []) 2 20 3; expected = told 16 0 0 3 (255 ∷ 255 ∷ []) }
+    ∷ record { asked = unpruned dear (0 ∷ []) (255 ∷ []) 2 20 3; expected = toldAtLimit 0 0 3 0 (255 ∷ 255 ∷ []) }
     -- the order of the refusals: each of these has later faults of the query too
     ∷ record {
       asked =
@@ -418,9 +420,9 @@ unfolding valueOf valuesOf applicable successor width states ruleAt stepOf ruleC
     followed extended composedFrom composed has setOf namedElsewhere readAt writtenAt manyValued touchedBy touchedIn
     macroCauses macroAnswer tableEntries sequenceAt entryAt marked builtEntry builtTable entryJustified accepted
     tableCauses buildOutcome builtBuffer checkCauses checkOutcome markedSequences unionOf tableTouched buildAnswer
-    checkAnswer startFits goalFits meetsGoal visitedBy plansFor queryCauses cheapestPlan searchCauses shownPlan
-    searchedWith searched numeral line markedIndices markLines listingOf listing packed textRefused ofText searchedText
-    packedSearch
+    checkAnswer startFits goalFits meetsGoal visitedBy plansFor lookedAt cheapestLooked frontierOf floorBeside
+    queryCauses cheapestPlan searchCauses shownPlan searchedWith searched numeral line markedIndices markLines listingOf
+    listing packed textRefused ofText searchedText packedSearch
 further-cases = refl
 
 -- ── Redundancy ───────────────────────────────────────────────────────────────────────────────────
@@ -459,7 +461,7 @@ full =
           18446744073709551610;
     }
 
-pub tallies : map (λ (outcome : ℕ). talliedOf full outcome 9) (0 ∷ 15 ∷ 16 ∷ 17 ∷ [])
+pub tallies : map (λ (outcome : ℕ). talliedOf full outcome 9) (0 ∷ 15 ∷ 16 ∷ 17 ∷ 18 ∷ [])
     ≡ record {
       solved =
           18446744073709551615;
@@ -493,6 +495,15 @@ pub tallies : map (λ (outcome : ℕ). talliedOf full outcome 9) (0 ∷ 15 ∷ 1
       unsolvable = 18446744073709551614;
       limited = 5;
       refused = 8;
+      steps =
+          18446744073709551615;
+    }
+    ∷ record {
+      solved =
+          18446744073709551615;
+      unsolvable = 18446744073709551614;
+      limited = 6;
+      refused = 7;
       steps =
           18446744073709551615;
     }

@@ -2,4 +2,5 @@ pub mod Small
 pub mod Files
 pub mod Worked
 pub mod Further
+pub mod AtLimit
 pub mod Entries

@@ -1,5 +1,5 @@
--- The worked cases P1 to P11 of document 01, with the positions read and written that document 02 adds, and the table
--- of E: one table, proved together of the definitions, by evaluation.
+-- The worked cases P1 to P11 of document 01, with the positions read and written that document 02 adds and its answer
+-- of P2, and the table of E: one table, proved together of the definitions, by evaluation.
 -- The rule sets are what `reading` gives of their files. Each search is asked with a plan buffer of exactly the move
 -- bound and with a longer one.
 use Prim.Native.Nat.{ℕ}
@@ -32,6 +32,7 @@ use Rattle.tables_spec.specs.Answers.{tableCauses, buildOutcome, builtBuffer, c
 use Rattle.unions_spec.specs.Unions.{markedSequences, unionOf, tableTouched, buildAnswer, checkAnswer}
 use Rattle.unions_spec.specs.declared.TableAnswer.{TableAnswer}
 use Rattle.search_spec.specs.Query.{Query, startFits, goalFits, meetsGoal, visitedBy, plansFor}
+use Rattle.search_spec.specs.Looked.{lookedAt, cheapestLooked, frontierOf, floorBeside}
 use Rattle.search_spec.specs.Searched.{Searched, queryCauses, cheapestPlan, searchCauses, shownPlan, searchedWith}
 use Rattle.search_spec.specs.Searched.{searched}
 use Rattle.planner_spec.specs.Packed.{searchedText, packedSearch}
@@ -70,6 +71,7 @@ pub data Question : Type 0 where
   look : RuleSet → ℕ → List ℕ → ℕ → Question
   list : String → Question
   enter : String → Query → ℕ → Question
+  enterFloor : String → Query → ℕ → Question
 
 -- the whole answer, with the buffer that the call leaves; of an index its sequence and its entry in the table
 pub data Reply : Type 0 where
@@ -94,6 +96,8 @@ reply (look set reach table index) = shows (sequenceAt set reach index) (entryAt
 reply (list file) = lists (listing (bytes file))
 reply (enter file query room) =
     packs (packedSearch (bytes file) query room) (searchedText (bytes file) query room .plan)
+reply (enterFloor file query room) =
+    let found = searchedText (bytes file) query room in packs (found .answer .floor) (found .plan)
 
 pub record Row : Type 0 where
   pub asked : Question
@@ -127,9 +131,21 @@ ofH table room =
       stepLimit = 5;
     }) room
 
+-- an answer without a floor: outcome, cost, length, steps and plan buffer
 abbrev pub told : ℕ → ℕ → ℕ → ℕ → List ℕ → Reply
 told outcome cost n steps plan =
-    finds (record { answer = record { outcome = outcome; cost = cost; length = n; steps = steps }; plan = plan })
+    finds (record {
+      answer = record { outcome = outcome; cost = cost; length = n; steps = steps; floor = 0 };
+      plan = plan;
+    })
+
+-- a plan at the limit: cost, length, steps, floor and plan buffer
+abbrev pub toldAtLimit : ℕ → ℕ → ℕ → ℕ → List ℕ → Reply
+toldAtLimit cost n steps floor plan =
+    finds (record {
+      answer = record { outcome = 18; cost = cost; length = n; steps = steps; floor = floor };
+      plan = plan;
+    })
 
 -- an outcome with the positions read and written, in that order
 abbrev pub answer : ℕ → ℕ → ℕ → TableAnswer
@@ -183,9 +199,9 @@ rows =
     -- P1
     record { asked = ofE (0 ∷ 0 ∷ []) 2 9 4 2; expected = told 0 2 2 4 (1 ∷ 2 ∷ []) }
     ∷ record { asked = ofE (0 ∷ 0 ∷ []) 2 9 4 5; expected = told 0 2 2 4 (1 ∷ 2 ∷ 255 ∷ 255 ∷ 255 ∷ []) }
-    -- P2
-    ∷ record { asked = ofE (0 ∷ 0 ∷ []) 2 9 3 2; expected = told 16 0 0 3 (255 ∷ 255 ∷ []) }
-    ∷ record { asked = ofE (0 ∷ 0 ∷ []) 2 9 3 5; expected = told 16 0 0 3 (255 ∷ 255 ∷ 255 ∷ 255 ∷ 255 ∷ []) }
+    -- P2, as document 02 has it: (), (1) and (1,2) are looked at, and (2) is not
+    ∷ record { asked = ofE (0 ∷ 0 ∷ []) 2 9 3 2; expected = toldAtLimit 2 2 3 1 (1 ∷ 2 ∷ []) }
+    ∷ record { asked = ofE (0 ∷ 0 ∷ []) 2 9 3 5; expected = toldAtLimit 2 2 3 1 (1 ∷ 2 ∷ 255 ∷ 255 ∷ 255 ∷ []) }
     -- P3
     ∷ record { asked = ofE (0 ∷ 0 ∷ []) 1 9 4 1; expected = told 15 0 0 3 (255 ∷ []) }
     ∷ record { asked = ofE (0 ∷ 0 ∷ []) 1 9 4 4; expected = told 15 0 0 3 (255 ∷ 255 ∷ 255 ∷ 255 ∷ []) }
@@ -232,6 +248,6 @@ unfolding valueOf valuesOf applicable successor width states ruleAt stepOf ruleC
     followed extended composedFrom composed has setOf namedElsewhere readAt writtenAt manyValued touchedBy touchedIn
     macroCauses macroAnswer tableEntries sequenceAt entryAt marked builtEntry builtTable entryJustified accepted
     tableCauses buildOutcome builtBuffer checkCauses checkOutcome markedSequences unionOf tableTouched buildAnswer
-    checkAnswer startFits goalFits meetsGoal visitedBy plansFor queryCauses cheapestPlan searchCauses shownPlan
-    searchedWith searched
+    checkAnswer startFits goalFits meetsGoal visitedBy plansFor lookedAt cheapestLooked frontierOf floorBeside
+    queryCauses cheapestPlan searchCauses shownPlan searchedWith searched
 worked-cases = refl
