@@ -1,5 +1,6 @@
-/* Searches for the cheapest plan and shows it, one move a line; on request appends the answer to a log. Each answer is
- * shown whole and from this search alone. */
+/* Searches for the cheapest plan and shows it, one move a line; over the step limit, the cheapest of the plans met and
+ * what every plan within the bounds costs at least. On request appends the answer to a log. Each answer is shown whole,
+ * and nothing of an earlier one. */
 #include <errno.h>
 #include <inttypes.h>
 #include <stdbool.h>
@@ -26,10 +27,12 @@ struct request {
     struct query query;
 };
 
-/* The answer of a search and its plan. */
+/* The answer of a search, its plan, and its floor: what every plan within the bounds costs at least where this one need
+ * not be the cheapest, else 0. */
 struct result {
     uint64_t answer;
     uint8_t plan[PLANNER_MAX_MOVES];
+    uint16_t floor;
 };
 
 static void show_help(void)
@@ -53,7 +56,10 @@ static void show_help(void)
            PLANNER_MAX_MOVES, DEFAULT_MOVES, UINT16_MAX, DEFAULT_COST, UINT32_MAX, DEFAULT_STEPS);
     printf("Options may stand anywhere and be written --moves=12; -- ends them. Numbers are in base ten.\n"
            "A value that begins with -- is written in this way only. Of an option given twice the last counts.\n"
-           "Exit status: 0 a plan, 1 another outcome, 2 a bad argument or a file that could not be read or written.\n");
+           "With more sequences to visit than the step limit it shows the cheapest of the plans met, if any: it need\n"
+           "not be the cheapest of all, and 'at least N' says that no plan within the bounds costs less than N.\n"
+           "Exit status: 0 the cheapest plan, 1 another outcome, a plan that need not be the cheapest included,\n"
+           "2 a bad argument or a file that could not be read or written.\n");
 }
 
 /* One value of a list. */
@@ -132,14 +138,25 @@ static void read_files(struct request *request)
         check_log(request->log);
 }
 
-/* The planner's answer to a query. */
+/* The floor of a query, by a search of its own that leaves the same plan. */
+static uint16_t search_floor(const struct query *query, uint8_t plan[PLANNER_MAX_MOVES])
+{
+    return planner_search_floor(query->rules.at, query->rules.length, query->table.at, query->table.length,
+                                query->start.at, query->start.length, query->goal.at, query->goal.length,
+                                plan, PLANNER_MAX_MOVES, query->reach, query->max_moves, query->max_cost,
+                                query->step_limit);
+}
+
+/* The planner's answer to a query; the floor is asked for only where there is one. */
 static struct result search(const struct query *query)
 {
-    struct result result;
+    struct result result = {.floor = 0};
     result.answer = planner_search(query->rules.at, query->rules.length, query->table.at, query->table.length,
                                    query->start.at, query->start.length, query->goal.at, query->goal.length,
                                    result.plan, sizeof result.plan, query->reach, query->max_moves, query->max_cost,
                                    query->step_limit);
+    if (planner_outcome(result.answer) == PLANNER_PLAN_AT_LIMIT)
+        result.floor = search_floor(query, result.plan);
     return result;
 }
 
@@ -149,15 +166,28 @@ static void put_answer_words(FILE *out, const struct query *query, uint64_t answ
     put_words(out, planner_outcome(answer), "plan found", query);
 }
 
-/* Shows an answer: the plan of outcome 0, and of every other outcome nothing but the outcome and the steps. */
+/* Shows what a plan costs, what every plan within the bounds costs at least where this one need not be the cheapest,
+ * and its length. */
+static void show_cost(const struct result *result)
+{
+    printf("cost %u\n", planner_cost(result->answer));
+    if (planner_outcome(result->answer) == PLANNER_PLAN_AT_LIMIT)
+        printf("at least %u\n", result->floor);
+    printf("length %u\n", planner_length(result->answer));
+}
+
+/* Shows an answer: the plan of the two outcomes that have one, and of every other outcome nothing but the outcome and
+ * the steps. */
 static void show_result(const struct query *query, const struct result *result)
 {
     uint64_t answer = result->answer;
-    printf("outcome %u: ", planner_outcome(answer));
+    uint8_t outcome = planner_outcome(answer);
+    printf("outcome %u: ", outcome);
     put_answer_words(stdout, query, answer);
-    if (planner_outcome(answer) == PLANNER_OK)
-        printf("\ncost %u\nlength %u", planner_cost(answer), planner_length(answer));
-    printf("\nsteps %" PRIu32 "\n", planner_steps(answer));
+    printf("\n");
+    if (outcome == PLANNER_OK || outcome == PLANNER_PLAN_AT_LIMIT)
+        show_cost(result);
+    printf("steps %" PRIu32 "\n", planner_steps(answer));
     for (size_t at = 0; at < planner_length(answer); at++)
         printf("rule %u\n", result->plan[at]);
 }
@@ -206,7 +236,7 @@ static void put_entry(FILE *out, const struct request *request, const struct res
     fprintf(out, "outcome=%u\nwords=", planner_outcome(answer));
     put_answer_words(out, query, answer);
     fprintf(out, "\ncost=%u\nlength=%u\n", planner_cost(answer), planner_length(answer));
-    fprintf(out, "steps=%" PRIu32 "\n", planner_steps(answer));
+    fprintf(out, "steps=%" PRIu32 "\nfloor=%u\n", planner_steps(answer), result->floor);
     put_list(out, "plan", result->plan, planner_length(answer));
     fprintf(out, "rule_file=%s\nrule_bytes=%zu\n", query->rules.cut ? "cut" : "whole", query->rules.length);
     fwrite(query->rules.at, 1, query->rules.length, out);

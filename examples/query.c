@@ -38,8 +38,10 @@ static const char *general_words(uint8_t outcome, const char *success)
         [PLANNER_UNKNOWN_MOVE] = "a move that is no rule's number",
         [PLANNER_TABLE_NOT_ACCEPTED] = "the table is not accepted",
         [PLANNER_NO_PLAN] = "no plan within the bounds",
-        [PLANNER_STEP_LIMIT] = "more sequences to visit than the step limit",
+        [PLANNER_STEP_LIMIT] = "no plan met, and more sequences to visit than the step limit",
         [PLANNER_NOT_ADMITTED] = "no state admits the sequence",
+        [PLANNER_PLAN_AT_LIMIT] =
+            "a plan met, which need not be the cheapest, and more sequences to visit than the step limit",
     };
     if (outcome == PLANNER_OK)
         return success;
@@ -132,6 +134,7 @@ void put_words(FILE *out, uint8_t outcome, const char *success, const struct que
         fprintf(out, ": moves %zu, cost %u", query->max_moves, query->max_cost);
         break;
     case PLANNER_STEP_LIMIT:
+    case PLANNER_PLAN_AT_LIMIT:
         fprintf(out, ": %" PRIu32, query->step_limit);
         break;
     default:

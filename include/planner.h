@@ -7,8 +7,9 @@
  *   overlap each other, and never change;
  * - during the call no other thread writes any of the buffers, nor reads one that is written;
  * - PLANNER_STACK bytes of stack.
- * Nothing else is asked: any bytes, lengths and numbers end in an answer or in one numbered refusal. But C cuts a
- * number down to its parameter's type before the call: a max_cost of 65545 arrives as 9, and is answered as 9.
+ * Nothing else is asked: any bytes, lengths and numbers end in an answer or in one numbered refusal, which
+ * planner_search_floor leaves to planner_search to tell. But C cuts a number down to its parameter's type before the
+ * call: a max_cost of 65545 arrives as 9, and is answered as 9.
  * Nothing is kept between calls: threads may call at the same time, each with its own buffers to write. */
 #ifndef PLANNER_H
 #define PLANNER_H
@@ -22,13 +23,16 @@ extern "C" {
 
 /* The version of this header and of the library that it declares. The first number is raised when an entry changes,
  * the second when something is added or more is accepted: a program may refuse to be compiled with a header that it was
- * not written for, by #if PLANNER_VERSION_MAJOR != 2.
+ * not written for, by #if PLANNER_VERSION_MAJOR != 3.
+ * Since 3.0 planner_search gives 18, with a plan that need not be the cheapest, to some queries that got 16 without
+ * one: a program that was written for 2.1 has to know this outcome, and to call a plan the cheapest only at outcome 0.
+ * planner_search_floor is new.
  * Since 2.1 two rules may have equal if and then lines where their costs differ: such a file, which got 4, is read.
  * Since 2.0 planner_build_table and planner_check_table give a packed answer: a program that was written for 1.0 has
  * to compare planner_outcome of it, for an accepted table can have other bits set; and a macro has 38 bytes, not 34. */
-#define PLANNER_VERSION_MAJOR 2
-#define PLANNER_VERSION_MINOR 1
-#define PLANNER_VERSION "2.1"
+#define PLANNER_VERSION_MAJOR 3
+#define PLANNER_VERSION_MINOR 0
+#define PLANNER_VERSION "3.0"
 
 /* What a call needs of the stack, in bytes. */
 #define PLANNER_STACK 262144
@@ -54,7 +58,7 @@ extern "C" {
 /* Outcomes. Each call gives the first whose cause holds, in the order given with it. '1 to 4' is, within it: 1, 2 and 3
  * in text order, whichever cause stands first in the file, then 4. */
 enum planner_outcome {
-    PLANNER_OK = 0,                  /* not refused; of a search: a plan found */
+    PLANNER_OK = 0,                  /* not refused; of a search: the cheapest plan */
     PLANNER_BAD_FORM = 1,            /* rule file: a byte does not fit, the file ends early, or bytes are left over */
     PLANNER_OUTSIDE_LIMIT = 2,       /* rule file: a well-formed number outside its limit */
     PLANNER_MISPLACED_VARIABLE = 3,  /* rule file: a variable out of place */
@@ -70,8 +74,9 @@ enum planner_outcome {
     PLANNER_UNKNOWN_MOVE = 13,       /* a move that is no rule's number */
     PLANNER_TABLE_NOT_ACCEPTED = 14, /* a mark of the table is not justified */
     PLANNER_NO_PLAN = 15,            /* no rule sequence leads to the goal within both bounds */
-    PLANNER_STEP_LIMIT = 16,         /* more sequences to visit than the step limit */
-    PLANNER_NOT_ADMITTED = 17        /* no state admits the sequence */
+    PLANNER_STEP_LIMIT = 16,         /* more sequences to visit than the step limit, and no plan among those visited */
+    PLANNER_NOT_ADMITTED = 17,       /* no state admits the sequence */
+    PLANNER_PLAN_AT_LIMIT = 18       /* as 16, but with a plan among those visited: it need not be the cheapest */
 };
 
 /* Any value, in a goal. Also every byte of a plan buffer that holds no move. */
@@ -98,17 +103,38 @@ enum planner_outcome {
 /* Searches for the cheapest plan from the start to the goal.
  * Takes a rule file; its table for this reach, built or from anywhere; a start and a goal with one byte for each
  * position, PLANNER_ANY in the goal for any value; a plan buffer of at least max_moves bytes; the bounds on moves and
- * cost, and the most sequences to visit.
- * Outcomes, in this order: 1 to 4, 5, 6, 9, 10, 11, 12, 14, 16, 15, 0.
- * With outcome 0 the plan's rule numbers, from 1, stand at the front of plan, one byte each, and every other byte of it
- * is PLANNER_ANY; with any other outcome every byte is PLANNER_ANY.
+ * cost, and the most sequences to visit. To be visited are those that can be run from the start within both bounds and
+ * have no marked segment: each before those that extend it by a rule, these by rule number, and all that extends one of
+ * them before the next.
+ * Outcomes, in this order: 1 to 4, 5, 6, 9, 10, 11, 12, 14, 18, 16, 15, 0.
+ * - 0: the plan is the cheapest of all within the bounds; of equally cheap ones it has the fewest moves, and of these
+ *   the smaller rule number at the first difference. No other outcome says of a plan that it is the cheapest.
+ * - 15: no plan is within the bounds.
+ * - 16: there are more sequences to visit than the step limit, and among the first of them, as many as the limit, there
+ *   is no plan. Whether there is one at all is not known.
+ * - 18: likewise, but with a plan among them: the cheapest of these, at equal cost chosen as for 0. It need not be the
+ *   cheapest of all; planner_search_floor tells what every plan within the bounds costs at least.
+ * With outcome 0 or 18 the plan's rule numbers, from 1, stand at the front of plan, one byte each, and every other byte
+ * of it is PLANNER_ANY; with any other outcome every byte is PLANNER_ANY. A plan of no moves leaves the same: only the
+ * outcome tells it from none.
  * The answer packs outcome, length, cost and steps: planner_outcome, planner_length, planner_cost and planner_steps
  * take it apart. Cost and length are 0 without a plan; the steps are the number of sequences visited for 0 and 15, the
- * step limit for 16, else 0. */
+ * step limit for 16 and 18, else 0. */
 uint64_t planner_search(const uint8_t *rules, size_t rules_length, const uint8_t *table, size_t table_length,
                         const uint8_t *start, size_t start_length, const uint8_t *goal, size_t goal_length,
                         uint8_t *plan, size_t plan_length, size_t reach, size_t max_moves, uint16_t max_cost,
                         uint32_t step_limit);
+
+/* The floor, where planner_search gives 18: no plan within the bounds costs less.
+ * Takes what planner_search takes, searches as it does, and leaves the same in plan.
+ * Gives the floor for outcome 18, and 0 for every other. A floor can be 0 as well, so that a 0 does not tell the
+ * outcome: ask planner_search. The floor is the smaller of the cost of the plan shown and the least cost among the
+ * sequences that were to be visited, were not, and extend a visited one by a single rule. Where it is the plan's cost,
+ * no plan within the bounds is cheaper, though the outcome stays 18. */
+uint16_t planner_search_floor(const uint8_t *rules, size_t rules_length, const uint8_t *table, size_t table_length,
+                              const uint8_t *start, size_t start_length, const uint8_t *goal, size_t goal_length,
+                              uint8_t *plan, size_t plan_length, size_t reach, size_t max_moves, uint16_t max_cost,
+                              uint32_t step_limit);
 
 /* Judges a rule file, a text of any bytes and length. Outcomes: 1 to 4, 0. Writes nothing. */
 uint8_t planner_read(const uint8_t *text, size_t text_length);

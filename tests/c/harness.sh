@@ -37,7 +37,8 @@ words[10]='the goal has a wrong length or a value not below its size'
 words[11]='more than 32 moves'
 words[14]='the table is not accepted'
 words[15]='no plan within the bounds'
-words[16]='more sequences to visit than the step limit'
+words[16]='no plan met, and more sequences to visit than the step limit'
+words[18]='a plan met, which need not be the cheapest, and more sequences to visit than the step limit'
 
 # WHAT EXPECTED GOT COMMAND..: ends the tests if the texts differ
 same() {
@@ -67,7 +68,16 @@ shown() {
   for rule in "${rules[@]}"; do echo "rule $rule"; done
 }
 
-# OUTCOME STEPS CAUSE: what plan shows of another outcome; the cause follows its words
+# RULES COST FLOOR LIMIT: what plan shows of a plan met before the step limit, which is the number of steps
+shown_at_limit() {
+  local rules=() rule
+  read -ra rules <<<"$1"
+  printf 'outcome 18: %s: %s\ncost %s\nat least %s\nlength %s\nsteps %s\n' "${words[18]}" "$4" "$2" "$3" \
+    "${#rules[@]}" "$4"
+  for rule in "${rules[@]}"; do echo "rule $rule"; done
+}
+
+# OUTCOME STEPS CAUSE: what plan shows of an outcome without a plan; the cause follows its words
 shown_outcome() {
   printf 'outcome %s: %s%s\nsteps %s\n' "$1" "${words[$1]}" "$3" "$2"
 }
@@ -75,6 +85,11 @@ shown_outcome() {
 # RULES COST STEPS ARGUMENT..: a search that finds this plan
 finds() {
   run 0 "$(shown "$1" "$2" "$3" && echo .)" . "$plan" "${@:4}"
+}
+
+# RULES COST FLOOR LIMIT ARGUMENT..: a search that ends in outcome 18 at this step limit, with this plan
+meets() {
+  run 1 "$(shown_at_limit "$1" "$2" "$3" "$4" && echo .)" . "$plan" "${@:5}" --steps "$4"
 }
 
 # OUTCOME STEPS CAUSE ARGUMENT..: a search that ends in this outcome, with a blank plan

@@ -200,6 +200,115 @@ static void searches(void)
     expect("planner_search of no steps", answer == PLANNER_STEP_LIMIT);
 }
 
+/* What both entries of a search take, but for the plan buffer. */
+struct search {
+    const char *file;
+    const uint8_t *table, *start, *goal;
+    size_t table_length, start_length, goal_length;
+    size_t reach, max_moves;
+    uint16_t max_cost;
+    uint32_t step_limit;
+};
+
+static uint64_t search(const struct search *asked, uint8_t *plan, size_t plan_length)
+{
+    return planner_search((const uint8_t *)asked->file, strlen(asked->file), asked->table, asked->table_length,
+                          asked->start, asked->start_length, asked->goal, asked->goal_length, plan, plan_length,
+                          asked->reach, asked->max_moves, asked->max_cost, asked->step_limit);
+}
+
+static uint16_t search_floor(const struct search *asked, uint8_t *plan, size_t plan_length)
+{
+    return planner_search_floor((const uint8_t *)asked->file, strlen(asked->file), asked->table, asked->table_length,
+                                asked->start, asked->start_length, asked->goal, asked->goal_length, plan, plan_length,
+                                asked->reach, asked->max_moves, asked->max_cost, asked->step_limit);
+}
+
+/* Whether one entry gives this answer and the other this floor, and both leave these moves in a buffer of four bytes,
+ * and the byte after it as it was. */
+static bool gives(const struct search *asked, uint64_t answer, uint16_t floor, const uint8_t *moves, size_t length)
+{
+    uint8_t plan[5] = {7, 7, 7, 7, 7}, again[5] = {7, 7, 7, 7, 7};
+    return search(asked, plan, 4) == answer && holds(plan, 4, moves, length, PLANNER_ANY) && plan[4] == 7
+        && search_floor(asked, again, 4) == floor && memcmp(again, plan, sizeof plan) == 0;
+}
+
+/* Whether both entries refuse a search: the outcome alone, no floor, and no plan. */
+static bool refuses(const struct search *asked, uint8_t outcome)
+{
+    return gives(asked, outcome, 0, NULL, 0);
+}
+
+/* An answer in one number. */
+static uint64_t packed(uint8_t outcome, uint8_t length, uint16_t cost, uint32_t steps)
+{
+    return outcome | (uint64_t)length << 8 | (uint64_t)cost << 16 | (uint64_t)steps << 32;
+}
+
+/* Document 01's P2, with one step more and fewer, within a cost that has no plan, and refused: each cause comes before
+ * the one that was there already. */
+static void floors(void)
+{
+    static const uint8_t start[] = {1, 1}, goal[] = {0, 0}, zeros[sizeof marks], both[] = {1, 2};
+    struct search asked = {
+        .file = (const char *)rules, .table = marks, .table_length = sizeof marks, .start = start, .start_length = 2,
+        .goal = goal, .goal_length = 2, .reach = 2, .max_moves = 2, .max_cost = 9, .step_limit = 3};
+    /* visited are the empty sequence, 1 and 1,2; 2 is left, at cost 1 */
+    expect("P2", gives(&asked, packed(PLANNER_PLAN_AT_LIMIT, 2, 2, 3), 1, both, 2));
+    asked.step_limit = 4;
+    expect("P1", gives(&asked, packed(PLANNER_OK, 2, 2, 4), 0, both, 2));
+    asked.max_cost = 1;
+    expect("P4", gives(&asked, packed(PLANNER_NO_PLAN, 0, 0, 3), 0, NULL, 0));
+    asked.step_limit = 2;
+    expect("two steps", gives(&asked, packed(PLANNER_STEP_LIMIT, 0, 0, 2), 0, NULL, 0));
+    asked.table = zeros;
+    expect("the floor with a wrong table", refuses(&asked, PLANNER_TABLE_NOT_ACCEPTED));
+    asked.max_moves = 5;
+    expect("the floor with a short plan buffer", refuses(&asked, PLANNER_SHORT_PLAN_BUFFER));
+    asked.max_moves = PLANNER_MAX_MOVES + 1;
+    expect("the floor with too many moves", refuses(&asked, PLANNER_TOO_MANY_MOVES));
+    asked.goal_length = 1;
+    expect("the floor with a short goal", refuses(&asked, PLANNER_BAD_GOAL));
+    asked.start_length = 1;
+    expect("the floor with a short start", refuses(&asked, PLANNER_BAD_START));
+    asked.table_length = 13;
+    expect("the floor with a short table", refuses(&asked, PLANNER_BAD_TABLE_LENGTH));
+    asked.reach = 4;
+    expect("the floor at reach 4", refuses(&asked, PLANNER_BAD_REACH));
+    asked.file = "";
+    expect("the floor without a rule file", refuses(&asked, PLANNER_BAD_FORM));
+}
+
+/* Rule i puts 0 into position i; nothing is marked. */
+static void floors_of_other_sets(void)
+{
+    static const char three[] =
+        "positions=3\nsizes=2,2,2\nrules=3\ncost=3\nif=x1,x2,x3\nthen=0,x2,x3\n"
+        "cost=2\nif=x1,x2,x3\nthen=x1,0,x3\ncost=1\nif=x1,x2,x3\nthen=x1,x2,0\n";
+    static const char dear[] =
+        "positions=2\nsizes=2,2\nrules=2\ncost=255\nif=x1,x2\nthen=0,x2\ncost=255\nif=x1,x2\nthen=x1,0\n";
+    static const uint8_t kept[] = {255, 255, 255, 255, 255, 255, 255, 255}, start[] = {1, 1, 1}, goal[] = {0, 0};
+    static const uint8_t first[] = {0, PLANNER_ANY, PLANNER_ANY}, any[] = {PLANNER_ANY, PLANNER_ANY, PLANNER_ANY};
+    static const uint8_t one[] = {1}, both[] = {1, 2};
+    struct search asked = {
+        .file = three, .table = kept, .table_length = 8, .start = start, .start_length = 3, .goal = first,
+        .goal_length = 3, .reach = 1, .max_moves = 2, .max_cost = 9, .step_limit = 2};
+    /* visited are the empty sequence and 1; left are 1,1 to 1,3, 2 at cost 2 and 3 at cost 1 */
+    expect("a plan at the limit", gives(&asked, packed(PLANNER_PLAN_AT_LIMIT, 1, 3, 2), 1, one, 1));
+    asked.step_limit = 0;
+    expect("no step", gives(&asked, packed(PLANNER_STEP_LIMIT, 0, 0, 0), 0, NULL, 0));
+    asked.goal = any;
+    asked.step_limit = 1;
+    expect("an empty plan at the limit", gives(&asked, packed(PLANNER_PLAN_AT_LIMIT, 0, 0, 1), 0, NULL, 0));
+    /* visited are the empty sequence, 1, 1,1 and 1,2, and 2 is left; then this too, and 2,1 and 2,2 are left */
+    asked = (struct search){
+        .file = dear, .table = kept, .table_length = 6, .start = start, .start_length = 2, .goal = goal,
+        .goal_length = 2, .reach = 1, .max_moves = 2, .max_cost = 65535, .step_limit = 4};
+    expect("a floor of one byte", gives(&asked, packed(PLANNER_PLAN_AT_LIMIT, 2, 510, 4), 255, both, 2));
+    asked.step_limit = 5;
+    expect("a floor of two bytes", gives(&asked, packed(PLANNER_PLAN_AT_LIMIT, 2, 510, 5), 510, both, 2));
+}
+
 /* The outcome of a rule file with one rule and one position, of this size and cost; its front says so many rules. */
 static uint8_t read_small(int size, int rule_count, int cost)
 {
@@ -292,6 +401,8 @@ static void *all(void *unused)
     positions();
     macros();
     searches();
+    floors();
+    floors_of_other_sets();
     numbers_of_files();
     limits();
     version();
