@@ -1,6 +1,6 @@
 //! Answers written by hand, from the documents: library and oracle have to give just these, the whole number and the whole buffer.
 
-use crate::calls::{Answer, Call};
+use crate::calls::{Answer, Call, Query};
 use crate::compare::check;
 use crate::oracle::expected;
 use crate::oracle::table::{bytes, KEPT};
@@ -20,6 +20,51 @@ pub fn gives(call: &Call, number: u64, buffer: Vec<u8>) {
     let answer = Answer { number, buffer };
     assert_eq!(expected(call), answer, "the oracle, of\n{call}");
     check(call, &answer);
+}
+
+/// Both entries of a search leave this in the plan buffer, the first gives this number and the second this floor.
+pub fn searches(search: &Call, number: u64, floor: u64, buffer: Vec<u8>) {
+    gives(search, number, buffer.clone());
+    gives(&search.for_floor().expect("a search"), floor, buffer);
+}
+
+/// What a search is asked, but for its plan buffer.
+pub struct Asked<'a> {
+    pub rules: &'a str,
+    pub reach: usize,
+    pub table: &'a [u8],
+    pub start: &'a [u8],
+    pub goal: &'a [u8],
+    pub moves: usize,
+    pub cost: u16,
+    pub limit: u32,
+}
+
+impl Asked<'_> {
+    /// The search with a plan buffer of so many bytes.
+    pub fn call(&self, plan_length: usize) -> Call {
+        let query = Query { start: self.start.to_vec(), goal: self.goal.to_vec(), max_moves: self.moves, max_cost: self.cost, step_limit: self.limit };
+        Call::Search { rules: file(self.rules), table: self.table.to_vec(), reach: self.reach, query, plan_length }
+    }
+
+    /// This answer, and the floor, in plan buffers of several lengths.
+    fn both_give(&self, outcome: u64, plan: &[u8], cost: u64, steps: u64, floor: u64) {
+        for more in [0, 1, 3, 31, 300] {
+            let mut buffer = plan.to_vec();
+            buffer.resize(self.moves + more, 255);
+            searches(&self.call(buffer.len()), outcome | (plan.len() as u64) << 8 | cost << 16 | steps << 32, floor, buffer);
+        }
+    }
+
+    /// An outcome that has no floor.
+    pub fn gives(&self, outcome: u64, plan: &[u8], cost: u64, steps: u64) {
+        self.both_give(outcome, plan, cost, steps, 0);
+    }
+
+    /// Outcome 18 with this plan and this floor. "The steps of 18 are the ceiling".
+    pub fn gives_at_limit(&self, plan: &[u8], cost: u64, floor: u64) {
+        self.both_give(18, plan, cost, self.limit.into(), floor);
+    }
 }
 
 /// The reader gives this outcome; an accepted file is written again in full.

@@ -22,9 +22,10 @@ pub enum Call {
     BuildTable { rules: Vec<u8>, table_length: usize, reach: usize },
     CheckTable { rules: Vec<u8>, table: Vec<u8>, reach: usize },
     Macro { rules: Vec<u8>, moves: Vec<u8>, out_length: usize },
+    SearchFloor { rules: Vec<u8>, table: Vec<u8>, reach: usize, query: Query, plan_length: usize },
 }
 
-/// The number that an entry gives, and the whole buffer that it was lent for writing.
+/// The number that an entry gives, and the whole buffer that it was lent for writing. A floor is a number without parts: it tells no outcome.
 #[derive(Clone, Debug, PartialEq)]
 pub struct Answer {
     pub number: u64,
@@ -64,7 +65,7 @@ impl Answer {
 }
 
 /// The names of the C entries, in the order of `Call::entry`.
-pub const ENTRIES: [&str; 7] = ["search", "read", "rewrite", "table_size", "build_table", "check_table", "macro"];
+pub const ENTRIES: [&str; 8] = ["search", "read", "rewrite", "table_size", "build_table", "check_table", "macro", "search_floor"];
 
 impl Call {
     pub fn entry(&self) -> usize {
@@ -76,6 +77,18 @@ impl Call {
             Call::BuildTable { .. } => 4,
             Call::CheckTable { .. } => 5,
             Call::Macro { .. } => 6,
+            Call::SearchFloor { .. } => 7,
+        }
+    }
+
+    /// The same search asked for its floor; nothing for a call that is no search.
+    pub fn for_floor(&self) -> Option<Call> {
+        match self {
+            Call::Search { rules, table, reach, query, plan_length } => {
+                let (rules, table, query) = (rules.clone(), table.clone(), query.clone());
+                Some(Call::SearchFloor { rules, table, reach: *reach, query, plan_length: *plan_length })
+            }
+            _ => None,
         }
     }
 
@@ -87,7 +100,8 @@ impl Call {
             | Call::TableSize { rules, .. }
             | Call::BuildTable { rules, .. }
             | Call::CheckTable { rules, .. }
-            | Call::Macro { rules, .. } => rules,
+            | Call::Macro { rules, .. }
+            | Call::SearchFloor { rules, .. } => rules,
         }
     }
 }
@@ -96,10 +110,15 @@ impl fmt::Display for Call {
     fn fmt(&self, f: &mut fmt::Formatter) -> fmt::Result {
         let text = format!("b\"{}\".to_vec()", self.text().escape_ascii());
         match self {
-            Call::Search { table, reach, query, plan_length, .. } => write!(
+            Call::Search { table, reach, query, plan_length, .. } | Call::SearchFloor { table, reach, query, plan_length, .. } => write!(
                 f,
-                "Call::Search {{ rules: {text}, table: vec!{table:?}, reach: {reach}, query: Query {{ start: vec!{:?}, goal: vec!{:?}, max_moves: {}, max_cost: {}, step_limit: {} }}, plan_length: {plan_length} }}",
-                query.start, query.goal, query.max_moves, query.max_cost, query.step_limit
+                "Call::{} {{ rules: {text}, table: vec!{table:?}, reach: {reach}, query: Query {{ start: vec!{:?}, goal: vec!{:?}, max_moves: {}, max_cost: {}, step_limit: {} }}, plan_length: {plan_length} }}",
+                if matches!(self, Call::Search { .. }) { "Search" } else { "SearchFloor" },
+                query.start,
+                query.goal,
+                query.max_moves,
+                query.max_cost,
+                query.step_limit
             ),
             Call::Read { .. } => write!(f, "Call::Read {{ text: {text} }}"),
             Call::Rewrite { out_length, .. } => write!(f, "Call::Rewrite {{ text: {text}, out_length: {out_length} }}"),

@@ -8,20 +8,27 @@ use std::io::{self, Write};
 use std::sync::OnceLock;
 use std::thread;
 
+/// The outcomes that a search can give.
+const OF_SEARCHES: &[usize] = &[0, 1, 2, 3, 4, 5, 6, 9, 10, 11, 12, 14, 15, 16, 18];
+
 /// The outcomes that each entry can give, in the order of `ENTRIES`. No entry gives 7.
-const OUTCOMES: [&[usize]; 7] = [
-    &[0, 1, 2, 3, 4, 5, 6, 9, 10, 11, 12, 14, 15, 16],
+const OUTCOMES: [&[usize]; ENTRIES.len()] = [
+    OF_SEARCHES,
     &[0, 1, 2, 3, 4],
     &[0, 1, 2, 3, 4, 8],
     &[0, 1, 2, 3, 4, 5],
     &[0, 1, 2, 3, 4, 5, 6],
     &[0, 1, 2, 3, 4, 5, 6, 14],
     &[0, 1, 2, 3, 4, 8, 11, 13, 17],
+    OF_SEARCHES,
 ];
 
-/// How often each entry gave each outcome.
+/// The outcomes, from 0.
+const ALL: usize = 19;
+
+/// How often each entry gave each outcome; a floor counts with the outcome of its search.
 #[derive(Default)]
-pub struct Tally([[u64; 18]; 7]);
+pub struct Tally([[u64; ALL]; ENTRIES.len()]);
 
 /// Prints the call whole if what follows panics.
 struct Shown<'a>(&'a Call);
@@ -56,12 +63,19 @@ pub fn compare(call: &Call, tally: &mut Tally) -> Answer {
     compare_in(call, &mut Judged::new(&set), tally)
 }
 
-/// The same, where the file has been judged before.
+/// The same, where the file has been judged before. Every search is also asked for its floor.
 pub fn compare_in(call: &Call, judged: &mut Judged, tally: &mut Tally) -> Answer {
-    let expected = judged.expected(call);
-    check(call, &expected);
-    tally.0[call.entry()][expected.outcome()] += 1;
-    expected
+    let Some(found) = judged.found(call) else {
+        let expected = judged.expected(call);
+        check(call, &expected);
+        tally.0[call.entry()][expected.outcome()] += 1;
+        return expected;
+    };
+    for asked in [call].into_iter().chain(&call.for_floor()) {
+        check(asked, &found.answer_to(asked));
+        tally.0[asked.entry()][found.outcome as usize] += 1;
+    }
+    found.answer_to(call)
 }
 
 impl Tally {
@@ -76,7 +90,7 @@ impl Tally {
 
     /// Outcome and number of each that occurred.
     pub fn outcomes(&self) -> String {
-        let shown = (0..18).filter(|&outcome| self.outcome(outcome) > 0).map(|outcome| format!("{outcome}:{}", self.outcome(outcome)));
+        let shown = (0..ALL).filter(|&outcome| self.outcome(outcome) > 0).map(|outcome| format!("{outcome}:{}", self.outcome(outcome)));
         shown.collect::<Vec<_>>().join(",")
     }
 

@@ -190,6 +190,16 @@ fn reached(set: &Set, start: &[u8]) -> Vec<State> {
     met
 }
 
+/// Leaves some values of a goal open, or none.
+pub fn open(random: &mut Random, goal: &mut [u8]) {
+    let share = random.pick(&[0, 20, 60]);
+    for byte in goal {
+        if random.chance(share) {
+            *byte = 255;
+        }
+    }
+}
+
 /// A start in which some rule runs, most often; a goal that can be reached, most often, with some values left open. No bounds yet.
 pub fn query(random: &mut Random, set: &Set) -> Query {
     let mut start = state(random, &set.sizes);
@@ -203,12 +213,7 @@ pub fn query(random: &mut Random, set: &Set) -> Query {
     let far = random.from_to(met.len() / 2, met.len() - 1);
     let any = state(random, &set.sizes);
     let mut goal = random.pick(&[&met[far], &met[far], &met[far], &any, &start]).clone();
-    let open = random.pick(&[0, 20, 60]);
-    for byte in &mut goal {
-        if random.chance(open) {
-            *byte = 255;
-        }
-    }
+    open(random, &mut goal);
     Query { start, goal, max_moves: 0, max_cost: 65535, step_limit: u32::MAX }
 }
 

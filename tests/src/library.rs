@@ -21,6 +21,22 @@ extern "C" {
         max_cost: u16,
         step_limit: u32,
     ) -> u64;
+    fn planner_search_floor(
+        rules: *const u8,
+        rules_length: usize,
+        table: *const u8,
+        table_length: usize,
+        start: *const u8,
+        start_length: usize,
+        goal: *const u8,
+        goal_length: usize,
+        plan: *mut u8,
+        plan_length: usize,
+        reach: usize,
+        max_moves: usize,
+        max_cost: u16,
+        step_limit: u32,
+    ) -> u16;
     fn planner_read(text: *const u8, text_length: usize) -> u8;
     fn planner_rewrite(text: *const u8, text_length: usize, out: *mut u8, out_length: usize) -> u64;
     fn planner_table_size(rules: *const u8, rules_length: usize, reach: usize) -> u64;
@@ -98,7 +114,9 @@ pub fn answer(call: &Call) -> Answer {
 
 fn lends_empty(call: &Call) -> bool {
     let another = match call {
-        Call::Search { table, query, plan_length, .. } => table.is_empty() || query.start.is_empty() || query.goal.is_empty() || *plan_length == 0,
+        Call::Search { table, query, plan_length, .. } | Call::SearchFloor { table, query, plan_length, .. } => {
+            table.is_empty() || query.start.is_empty() || query.goal.is_empty() || *plan_length == 0
+        }
         Call::Read { .. } | Call::TableSize { .. } => false,
         Call::Rewrite { out_length, .. } => *out_length == 0,
         Call::BuildTable { table_length, .. } => *table_length == 0,
@@ -114,27 +132,33 @@ fn made(call: &Call, null: bool) -> Answer {
     let from = rules.pointer(null);
     // SAFETY, of every call here: each pointer is to as many bytes as the length beside it, or NULL with 0; no two buffers overlap, and no other thread has them.
     let answer = match call {
-        Call::Search { table, reach, query, plan_length, .. } => {
+        Call::Search { table, reach, query, plan_length, .. } | Call::SearchFloor { table, reach, query, plan_length, .. } => {
             let (mut marks, mut start, mut goal) = (Lent::reading(table), Lent::reading(&query.start), Lent::reading(&query.goal));
             let mut plan = Lent::writing(*plan_length);
-            let number = unsafe {
-                planner_search(
-                    from,
-                    text.len(),
-                    marks.pointer(null),
-                    table.len(),
-                    start.pointer(null),
-                    query.start.len(),
-                    goal.pointer(null),
-                    query.goal.len(),
-                    plan.pointer(null),
-                    *plan_length,
-                    *reach,
-                    query.max_moves,
-                    query.max_cost,
-                    query.step_limit,
-                )
-            };
+            // the second entry takes what the first takes
+            macro_rules! searched {
+                ($entry:ident) => {
+                    unsafe {
+                        $entry(
+                            from,
+                            text.len(),
+                            marks.pointer(null),
+                            table.len(),
+                            start.pointer(null),
+                            query.start.len(),
+                            goal.pointer(null),
+                            query.goal.len(),
+                            plan.pointer(null),
+                            *plan_length,
+                            *reach,
+                            query.max_moves,
+                            query.max_cost,
+                            query.step_limit,
+                        )
+                    }
+                };
+            }
+            let number = if matches!(call, Call::Search { .. }) { searched!(planner_search) } else { u64::from(searched!(planner_search_floor)) };
             marks.unchanged(table);
             start.unchanged(&query.start);
             goal.unchanged(&query.goal);

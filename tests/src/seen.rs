@@ -3,11 +3,12 @@
 use crate::calls::{Answer, Query};
 use crate::oracle::model::{Rule, Set};
 use crate::oracle::redundancy::Redundancy;
-use crate::oracle::search::{meets, Ran};
+use crate::oracle::search::{meets, plan_among, plan_looked_at, Ran};
 use crate::oracle::sequences::sequences;
 use crate::oracle::symbolic::Run;
 use crate::oracle::table::{marked, KEPT};
 use crate::oracle::touched::Touched;
+use std::collections::HashSet;
 
 /// What happened in a run, beside the outcomes. Each has to happen.
 #[derive(Default, Debug)]
@@ -57,6 +58,40 @@ pub struct Seen {
     pub unions_denied: u64,
     /// tables that are not accepted, with a mark on a sequence that reads or writes
     pub unions_withheld: u64,
+    /// searches above the step limit: without a plan looked at (16) though there is one, or where there is none; with one (18), and more sequences than are listed
+    pub exceeded_before_plan: u64,
+    pub exceeded_without_plan: u64,
+    pub limited_deep: u64,
+    /// with one and no more than are listed: an empty one; a floor below its cost, of 0 below its cost, as high as its cost and not 0
+    pub limited_empty: u64,
+    pub floors_below: u64,
+    pub floors_zero: u64,
+    pub floors_equal: u64,
+    /// where a wrong planner gives no plan or another: the first met; the first in order whatever it costs; of those that cost as much the first met, or the last
+    pub limited_first_met: u64,
+    pub limited_shortest: u64,
+    pub limited_tie_depth_first: u64,
+    pub limited_tie_last: u64,
+    /// the cheapest of all, which is cheaper, or which costs as much and is earlier
+    pub limited_cheaper: u64,
+    pub limited_earlier: u64,
+    /// one that looks at one sequence more, or at one fewer; at the first in document 01's order; at pruned ones too; at none beyond a goal
+    pub limited_one_more: u64,
+    pub limited_one_fewer: u64,
+    pub limited_in_order: u64,
+    pub limited_unpruned: u64,
+    pub limited_no_further: u64,
+    /// where a wrong planner gives another floor: of the first one not looked at; of that and its siblings; of what extends the last one looked at; of single rules
+    pub floors_of_next: u64,
+    pub floors_of_siblings: u64,
+    pub floors_of_last: u64,
+    pub floors_of_rules: u64,
+    /// of looked-at ones too; of pruned ones too; of those with a move too many, or that cannot be run; of what is not looked at, whatever the plan costs
+    pub floors_of_looked_at: u64,
+    pub floors_of_pruned: u64,
+    pub floors_of_longer: u64,
+    pub floors_of_denied: u64,
+    pub floors_of_others: u64,
 }
 
 impl Seen {
@@ -134,5 +169,67 @@ impl Seen {
         self.met_before += u64::from(plans.iter().any(|ran| ran.sequence[..] < *shown && unpruned(&ran.sequence)));
         self.open_goals += u64::from(query.goal.contains(&255) && !shown.is_empty());
         self.beyond_goals += u64::from(plans.len() > 1);
+    }
+
+    /// Notes a search above its step limit that looked at no plan, with all sequences within its bounds.
+    pub fn exceeded(&mut self, query: &Query, all: &[Ran]) {
+        let is_one = plan_among(all, query).is_some();
+        self.exceeded_before_plan += u64::from(is_one && query.step_limit > 0);
+        self.exceeded_without_plan += u64::from(!is_one && query.step_limit > 0);
+    }
+
+    /// Notes a search above its step limit that gave a plan, with all sequences within its bounds and the walk.
+    pub fn limited(&mut self, query: &Query, all: &[Ran], visits: &[&Ran], answer: &Answer) {
+        let (limit, shown, cost) = (query.step_limit as usize, &answer.buffer[..answer.length()], answer.cost() as u32);
+        let another = |plan: Option<&Ran>| u64::from(plan.is_none_or(|plan| plan.sequence != shown));
+        let goals: Vec<&Ran> = visits[..limit].iter().copied().filter(|ran| meets(&query.goal, &ran.state)).collect();
+        let equal: Vec<&Ran> = goals.iter().copied().filter(|ran| ran.cost == cost).collect();
+        self.limited_empty += u64::from(shown.is_empty());
+        self.limited_first_met += another(goals.first().copied());
+        self.limited_shortest += another(goals.iter().copied().min_by_key(|ran| (ran.sequence.len(), &ran.sequence)));
+        self.limited_tie_depth_first += another(equal.first().copied());
+        self.limited_tie_last += another(equal.last().copied());
+        let best = plan_among(all, query).filter(|best| best.sequence != shown);
+        self.limited_cheaper += u64::from(best.is_some_and(|best| best.cost < cost));
+        self.limited_earlier += u64::from(best.is_some_and(|best| best.cost == cost));
+        let of_front = |visits: &[&Ran], length: usize| another(plan_looked_at(visits.iter().take(length).copied(), query));
+        self.limited_one_more += of_front(visits, limit + 1);
+        self.limited_one_fewer += of_front(visits, limit - 1);
+        let mut in_order = visits.to_vec();
+        in_order.sort_by_key(|ran| (ran.sequence.len(), &ran.sequence));
+        self.limited_in_order += of_front(&in_order, limit);
+        let mut with_pruned: Vec<&Ran> = all.iter().collect();
+        with_pruned.sort_by_key(|&ran| &ran.sequence);
+        self.limited_unpruned += of_front(&with_pruned, limit);
+        let ends: HashSet<&[u8]> = all.iter().filter(|ran| meets(&query.goal, &ran.state)).map(|ran| &ran.sequence[..]).collect();
+        let no_further = |ran: &&Ran| (0..ran.sequence.len()).all(|length| !ends.contains(&ran.sequence[..length]));
+        let no_further: Vec<&Ran> = visits.iter().copied().filter(no_further).collect();
+        self.limited_no_further += of_front(&no_further, limit);
+    }
+
+    /// Notes the floor of a search above its step limit that gave a plan of this cost, with the walk.
+    pub fn floor(&mut self, set: &Set, query: &Query, visits: &[&Ran], cost: u32, floor: u32, unpruned: impl Fn(&[u8]) -> bool) {
+        let (looked_at, left) = visits.split_at(query.step_limit as usize);
+        let front = |ran: &Ran| ran.sequence[..ran.sequence.len() - 1].to_vec();
+        self.floors_below += u64::from(floor < cost);
+        self.floors_zero += u64::from(floor == 0 && cost > 0);
+        self.floors_equal += u64::from(floor == cost && cost > 0);
+        let of_left = |is_so: &dyn Fn(&Ran) -> bool| u64::from(left.iter().filter(|ran| is_so(ran)).map(|ran| ran.cost).chain([cost]).min() != Some(floor));
+        self.floors_of_next += of_left(&|ran| ran.sequence == left[0].sequence);
+        self.floors_of_siblings += of_left(&|ran| front(ran) == front(left[0]));
+        self.floors_of_last += of_left(&|ran| front(ran) == looked_at[looked_at.len() - 1].sequence);
+        self.floors_of_rules += of_left(&|ran| ran.sequence.len() == 1);
+        self.floors_of_looked_at += u64::from(looked_at[1..].iter().any(|ran| ran.cost < floor));
+        self.floors_of_others += u64::from(left.iter().all(|ran| ran.cost > floor));
+        // a rule more for a looked-at sequence, below the floor: whether it runs, whether there is a move for it, and whether no mark prunes it
+        let is_one = |runs: bool, fits: bool, kept: bool| {
+            let below = |ran: &Ran, number: u8| ran.cost + set.rule(number).cost < floor && set.rule(number).runs(&ran.state) == runs;
+            let longer = |ran: &Ran, number: u8| below(ran, number) && unpruned(&[&ran.sequence[..], &[number]].concat()) == kept;
+            let some = |ran: &&Ran| (ran.sequence.len() < query.max_moves) == fits && (1..=set.rules.len() as u8).any(|number| longer(ran, number));
+            u64::from(looked_at.iter().any(some))
+        };
+        self.floors_of_pruned += is_one(true, true, false);
+        self.floors_of_longer += is_one(true, false, true);
+        self.floors_of_denied += is_one(false, true, true);
     }
 }

@@ -1,6 +1,6 @@
 //! The largest inputs, and numbers and lengths that are absurd: each combination against the oracle.
 
-use planner_tests::by_hand::{builds, macro_is, table, unions};
+use planner_tests::by_hand::{builds, macro_is, searches, table, unions, Asked};
 use planner_tests::calls::{Call, Query};
 use planner_tests::compare::{check, compare, compare_in, Tally};
 use planner_tests::oracle::{expected, file, Judged};
@@ -199,13 +199,18 @@ fn all_sixteen_positions() {
 
 #[test]
 fn steps_beyond_16_bits() {
-    // both rules of E run in every state: with nothing marked, 2^17 - 1 sequences of at most 16 rules are visited
-    let mut tally = Tally::default();
-    for (step_limit, outcome, steps) in [(65_535, 16, 65_535), (65_536, 16, 65_536), (131_070, 16, 131_070), (131_071, 0, 131_071), (u32::MAX, 0, 131_071)] {
-        let query = Query { start: vec![1, 1], goal: vec![0, 0], max_moves: 16, max_cost: 65535, step_limit };
-        let answer = compare(&Call::Search { rules: E.as_bytes().to_vec(), table: vec![255; 14], reach: 2, query, plan_length: 16 }, &mut tally);
-        assert_eq!((answer.outcome(), answer.steps()), (outcome, steps));
+    // both rules of E run in every state: with nothing marked, 2^17 - 1 sequences of at most 16 rules are visited. The first 65,536 of them are the empty one and those that begin
+    // with rule 1: rule 2 is left, for 1. Of all but the last, 1,2 and 2,1 are the cheapest plans, and the last costs 16
+    let asked = |limit: u32| Asked { rules: E, reach: 2, table: &[255; 14], start: &[1, 1], goal: &[0, 0], moves: 16, cost: 65535, limit };
+    let plan = [&[1, 2][..], &[255; 14]].concat();
+    for (limit, outcome, steps, floor) in
+        [(65_535, 18, 65_535, 1), (65_536, 18, 65_536, 1), (131_070, 18, 131_070, 2), (131_071, 0, 131_071, 0), (u32::MAX, 0, 131_071, 0)]
+    {
+        searches(&asked(limit).call(16), outcome | 2 << 8 | 2 << 16 | steps << 32, floor, plan.clone());
     }
+    // no rule puts a 1
+    let none = Asked { start: &[0, 1], goal: &[1, 1], ..asked(131_070) };
+    searches(&none.call(16), 16 | 131_070 << 32, 0, vec![255; 16]);
 }
 
 #[test]
@@ -226,8 +231,8 @@ fn each_call_within_its_stack() {
         Call::Search { rules, table: all_kept.clone(), reach: 3, query: deep, plan_length: 32 },
         Call::Search { rules: longest, table: all_kept, reach: 3, query: far, plan_length: 32 },
     ];
-    for call in calls {
-        let answer = expected(&call);
-        within(planner_stack(), || check(&call, &answer));
+    for call in calls.iter().chain(&calls.iter().filter_map(Call::for_floor).collect::<Vec<_>>()) {
+        let answer = expected(call);
+        within(planner_stack(), || check(call, &answer));
     }
 }

@@ -1,11 +1,13 @@
-//! The oracle against itself: its two ways to redundancy, to the positions that a sequence reads and writes, to the plan and to the steps agree, a macro does what
-//! its rules do in every state, and of two rules with the same lines the later one may be marked with the earlier exactly if it is dearer.
+//! The oracle against itself: its two ways to redundancy, to the positions that a sequence reads and writes, to the plan, to the steps and to the walk agree, a macro does what
+//! its rules do in every state, of two rules with the same lines the later one may be marked with the earlier exactly if it is dearer, and no plan is below a floor.
 
 use planner_tests::calls::Query;
 use planner_tests::draw;
 use planner_tests::oracle::model::Set;
 use planner_tests::oracle::redundancy::Redundancy;
-use planner_tests::oracle::search::{all_within, plan_among, plan_by_states, steps_among, steps_up_to};
+use planner_tests::oracle::search::{
+    all_within, floor, plan_among, plan_by_states, plan_looked_at, steps_among, steps_up_to, visited_among, visited_up_to, Ran,
+};
 use planner_tests::oracle::sequences::{count, index, sequences};
 use planner_tests::oracle::symbolic::Run;
 use planner_tests::oracle::table::{accepted, built, KEPT};
@@ -128,4 +130,42 @@ fn both_ways_to_plan_and_steps_agree() {
             }
         }
     });
+}
+
+#[test]
+fn both_ways_to_the_visits_agree_and_no_plan_is_below_the_floor() {
+    // floors of plans that cost something; those below the plan's cost; those where a cheaper plan was not looked at
+    let mut met = [0; 3];
+    drawn("walks", 3000, 200, 5, |random, set| {
+        let max_cost = random.pick(&[2, 5, 9, 300, u16::MAX]);
+        let mut query = Query { max_moves: random.from_to(1, 6), max_cost, ..draw::query(random, set) };
+        let reach = random.from_to(1, 2);
+        let table = built(&Redundancy::new(set, reach));
+        let Some(all) = all_within(set, &query, 5_000) else {
+            return;
+        };
+        let visits = visited_among(&all, set.rules.len(), reach, &table);
+        assert_eq!(visits.len(), steps_among(&all, set.rules.len(), reach, &table), "{set:?} {query:?}");
+        for _ in 0..8 {
+            // the end of some sequence, in part, is the goal
+            query.goal = random.pick(&visits).state.clone();
+            draw::open(random, &mut query.goal);
+            let limit = random.from_to(0, visits.len());
+            let (looked_at, left) = (visited_up_to(set, &query, reach, &table, limit), &visits[limit..]);
+            let listed = |looked_at: &[&Ran]| looked_at.iter().map(|ran| (ran.sequence.clone(), ran.cost)).collect::<Vec<_>>();
+            assert_eq!(listed(&looked_at.iter().collect::<Vec<_>>()), listed(&visits[..limit]), "{set:?} {query:?} {limit}");
+            if let Some(plan) = plan_looked_at(&looked_at, &query) {
+                // "No plan within the bounds costs less than the floor."
+                let floor = floor(set, &query, reach, &table, &looked_at, plan);
+                let cheapest = plan_among(&all, &query).expect("a plan").cost;
+                assert!(floor <= cheapest, "{set:?} {query:?} {limit}");
+                // whatever is left is one of those sequences or extends one, and costs no less: the least of all that is left is the same
+                assert_eq!(floor, left.iter().map(|ran| ran.cost).fold(plan.cost, u32::min), "{set:?} {query:?} {limit}");
+                for (count, is_so) in met.iter_mut().zip([plan.cost > 0, floor < plan.cost, cheapest < plan.cost]) {
+                    *count += usize::from(is_so);
+                }
+            }
+        }
+    });
+    assert!(met.iter().all(|&count| count >= 100), "too few: {met:?}");
 }

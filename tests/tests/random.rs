@@ -7,7 +7,7 @@ use planner_tests::damage;
 use planner_tests::draw;
 use planner_tests::library;
 use planner_tests::oracle::model::{Entry, Rule, Set};
-use planner_tests::oracle::search::{all_within, plan_by_states, steps_up_to, unpruned};
+use planner_tests::oracle::search::{all_within, meets, plan_by_states, steps_up_to, unpruned, visited_among};
 use planner_tests::oracle::sequences::count;
 use planner_tests::oracle::table::{built, bytes, entries as entries_of};
 use planner_tests::oracle::touched::Touched;
@@ -91,6 +91,10 @@ impl Run {
         for _ in 0..20 {
             let entries = self.table(&mut judged, reach, &entries);
             self.search(&drawn, &mut judged, reach, &entries);
+        }
+        for _ in 0..5 {
+            let entries = self.table(&mut judged, reach, &entries);
+            self.search_above_limit(&drawn, &mut judged, reach, &entries);
         }
     }
 
@@ -209,7 +213,7 @@ impl Run {
         let sound = Call::Search { rules: drawn.text.to_vec(), table: bytes(entries), reach, query, plan_length };
         if !self.random.chance(25) {
             let answer = compare_in(&sound, judged, &mut self.tally);
-            self.note(drawn, reach, entries, &sound, &answer);
+            self.note(drawn, judged, reach, entries, &sound, &answer);
             return;
         }
         let causes = self.random.pick(&[1, 1, 2, 3, 6]);
@@ -221,12 +225,44 @@ impl Run {
         compare(&call, &mut self.tally);
     }
 
-    fn note(&mut self, drawn: &Drawn, reach: usize, entries: &[u16], call: &Call, answer: &Answer) {
-        if let (Call::Search { query, .. }, 0 | 15) = (call, answer.outcome()) {
-            match all_within(drawn.set, query, LISTED) {
-                Some(all) => self.seen.search(drawn.set, query, &all, answer, |sequence| unpruned(drawn.set.rules.len(), reach, entries, sequence)),
-                None => self.seen.deep += 1,
+    /// A search that ends above its step limit with a plan of some moves, where one is hit upon.
+    fn search_above_limit(&mut self, drawn: &Drawn, judged: &mut Judged, reach: usize, entries: &[u16]) {
+        let mut query = self.query(drawn, reach, entries);
+        let all = all_within(drawn.set, &query, LISTED).unwrap_or_default();
+        let visits = visited_among(&all, drawn.set.rules.len(), reach, entries);
+        if visits.len() < 3 {
+            return;
+        }
+        query.goal = self.random.pick(&visits).state.clone();
+        draw::open(&mut self.random, &mut query.goal);
+        let first = visits.iter().position(|ran| meets(&query.goal, &ran.state)).unwrap_or(0);
+        if first > 0 && first + 1 < visits.len() {
+            query.step_limit = self.random.from_to(first + 1, visits.len() - 1) as u32;
+            let plan_length = query.max_moves;
+            let call = Call::Search { rules: drawn.text.to_vec(), table: bytes(entries), reach, query, plan_length };
+            let answer = compare_in(&call, judged, &mut self.tally);
+            self.note(drawn, judged, reach, entries, &call, &answer);
+        }
+    }
+
+    fn note(&mut self, drawn: &Drawn, judged: &mut Judged, reach: usize, entries: &[u16], call: &Call, answer: &Answer) {
+        let (Call::Search { query, .. }, outcome @ (0 | 15 | 16 | 18)) = (call, answer.outcome()) else {
+            return;
+        };
+        let Some(all) = all_within(drawn.set, query, LISTED) else {
+            self.seen.deep += u64::from(outcome < 16);
+            self.seen.limited_deep += u64::from(outcome == 18);
+            return;
+        };
+        let unpruned = |sequence: &[u8]| unpruned(drawn.set.rules.len(), reach, entries, sequence);
+        match (outcome, call.for_floor()) {
+            (18, Some(asked)) => {
+                let (visits, floor) = (visited_among(&all, drawn.set.rules.len(), reach, entries), judged.expected(&asked).number as u32);
+                self.seen.limited(query, &all, &visits, answer);
+                self.seen.floor(drawn.set, query, &visits, answer.cost() as u32, floor, unpruned);
             }
+            (16, _) => self.seen.exceeded(query, &all),
+            _ => self.seen.search(drawn.set, query, &all, answer, unpruned),
         }
     }
 

@@ -47,5 +47,5 @@ fn tables() {
 #[test]
 fn queries() {
     let compared = all(include_str!("../../crates/cases_search/stdin"));
-    assert!(compared > 700, "only {compared} calls");
+    assert!(compared > 2_000, "only {compared} calls");
 }

@@ -1,33 +1,11 @@
-//! Document 01's worked cases, its Edges, and examples of the source documents, with their answers as the documents give them. Library and oracle have to give just these.
+//! Document 01's worked cases, P2 as document 02 has it since 2026-03, its Edges, and examples of the source documents, with their answers as the documents give them. Library
+//! and oracle have to give just these.
 
-use planner_tests::by_hand::{builds, built, checks, file, gives, macro_is, macro_refused, reads, table, unions, E, H};
+use planner_tests::by_hand::{builds, built, checks, file, macro_is, macro_refused, reads, searches, table, unions, Asked, E, H};
 use planner_tests::calls::{Call, Query};
 use planner_tests::oracle::table::{entries, KEPT};
 
 const P11: &str = "positions=3/sizes=3,3,3/rules=2/cost=1/if=x1,x2,x3/then=x1,x1,x3/cost=1/if=x1,x2,x2/then=0,x2,x2/";
-
-struct Asked<'a> {
-    rules: &'a str,
-    table: &'a [u8],
-    start: &'a [u8],
-    goal: &'a [u8],
-    moves: usize,
-    cost: u16,
-    limit: u32,
-}
-
-impl Asked<'_> {
-    fn gives(&self, outcome: u64, plan: &[u8], cost: u64, steps: u64) {
-        for more in [0, 1, 31, 300] {
-            let query = Query { start: self.start.to_vec(), goal: self.goal.to_vec(), max_moves: self.moves, max_cost: self.cost, step_limit: self.limit };
-            let plan_length = self.moves + more;
-            let call = Call::Search { rules: file(self.rules), table: self.table.to_vec(), reach: 2, query, plan_length };
-            let mut buffer = plan.to_vec();
-            buffer.resize(plan_length, 255);
-            gives(&call, outcome | (plan.len() as u64) << 8 | cost << 16 | steps << 32, buffer);
-        }
-    }
-}
 
 #[test]
 fn p1_to_p5_and_the_listing_of_e() {
@@ -35,9 +13,11 @@ fn p1_to_p5_and_the_listing_of_e() {
     let table = table(7, &[(3, 1), (5, 4), (6, 2)]);
     // reads= moves=1; reads= moves=1,2; reads= moves=2
     builds(E, 2, table.clone(), unions(0, 0b11));
-    let p1 = Asked { rules: E, table: &table, start: &[1, 1], goal: &[0, 0], moves: 2, cost: 9, limit: 4 };
+    let p1 = Asked { rules: E, reach: 2, table: &table, start: &[1, 1], goal: &[0, 0], moves: 2, cost: 9, limit: 4 };
     p1.gives(0, &[1, 2], 2, 4);
-    Asked { limit: 3, ..p1 }.gives(16, &[], 0, 3);
+    // "P2 is now 18: plan 1,2, cost 2, floor 1, steps 3."
+    Asked { limit: 3, ..p1 }.gives_at_limit(&[1, 2], 2, 1);
+    Asked { limit: 2, ..p1 }.gives(16, &[], 0, 2);
     Asked { moves: 1, ..p1 }.gives(15, &[], 0, 3);
     Asked { cost: 1, ..p1 }.gives(15, &[], 0, 3);
     Asked { goal: &[1, 1], moves: 0, limit: 1, ..p1 }.gives(0, &[], 0, 1);
@@ -57,8 +37,10 @@ fn p8_p9_and_p10() {
     // (3,4) is `1,0,0` to `3,1,1`, and every other mark is on a sequence that no state admits
     let table_of_h = built(H, 2, unions(0b111, 0b111));
     assert_eq!((entries(&table_of_h)[6], entries(&table_of_h)[16]), (KEPT, 12));
-    let p9 = Asked { rules: H, table: &table_of_h, start: &[0, 0, 0], goal: &[3, 1, 1], moves: 3, cost: 9, limit: 5 };
+    let p9 = Asked { rules: H, reach: 2, table: &table_of_h, start: &[0, 0, 0], goal: &[3, 1, 1], moves: 3, cost: 9, limit: 5 };
     p9.gives(0, &[1, 2, 4], 3, 5);
+    // the last of the five is 1,3
+    Asked { limit: 4, ..p9 }.gives_at_limit(&[1, 2, 4], 3, 2);
     let p10 = table(21, &[(6, 7)]);
     checks(H, 2, p10.clone(), 14);
     Asked { table: &p10, ..p9 }.gives(14, &[], 0, 0);
@@ -165,9 +147,11 @@ fn source_003_arrows() {
     // each set of the three flips is visited once, whatever the moves
     // R3-00, R1-00 is marked for R1-00, R3-00: `0,0,0,0` to `1,1,1,1`
     let table = built(&arrows, 2, unions(0b1111, 0b1111));
-    let asked = Asked { rules: &arrows, table: &table, start: &[0, 0, 0, 0], goal: &[1, 0, 0, 1], moves: 20, cost: 99, limit: 8 };
+    let asked = Asked { rules: &arrows, reach: 2, table: &table, start: &[0, 0, 0, 0], goal: &[1, 0, 0, 1], moves: 20, cost: 99, limit: 8 };
     asked.gives(0, &[1, 7, 11], 3, 8);
-    Asked { limit: 7, ..asked }.gives(16, &[], 0, 7);
+    // the last of them is R3-00, and all but that is looked at
+    Asked { limit: 7, ..asked }.gives_at_limit(&[1, 7, 11], 3, 1);
+    Asked { limit: 3, ..asked }.gives(16, &[], 0, 3);
     Asked { goal: &[1, 0, 0, 0], ..asked }.gives(15, &[], 0, 8);
 }
 
@@ -213,12 +197,12 @@ fn marks() {
 
 #[test]
 fn order_of_refusals() {
-    // Search: 7, 5, 6, 9, 10, 11, 12, 14, 16, 15; each with all the later ones
+    // Search: 7, 5, 6, 9, 10, 11, 12, 14, 16, 15; each with all the later ones. Where a plan was looked at 18 comes in the place of 16: tests/limit.rs
     let (good, bad, short) = (table(7, &[(3, 1)]), table(7, &[(1, 0)]), vec![255; 13]);
     let search = |rules: &str, table: &[u8], reach, start: &[u8], goal: &[u8], max_moves, step_limit, plan_length, outcome| {
         let query = Query { start: start.to_vec(), goal: goal.to_vec(), max_moves, max_cost: 9, step_limit };
         let call = Call::Search { rules: file(rules), table: table.to_vec(), reach, query, plan_length };
-        gives(&call, outcome, vec![255; plan_length]);
+        searches(&call, outcome, 0, vec![255; plan_length]);
     };
     search("positions=?", &short, 0, &[], &[], 33, 0, 0, 1);
     search(E, &short, 0, &[], &[], 33, 0, 0, 5);
@@ -244,7 +228,7 @@ fn cheapest_and_first() {
         let rules = ways(costs);
         let table = table(57, &[]);
         // 0; 0-1, 0-3, 0-2; 0-1-3, 0-1-2, 0-2-3, 0-2-1; 0-1-2-3, 0-1-2-1, 0-2-1-3, 0-2-1-2
-        Asked { rules: &rules, table: &table, start: &[0], goal: &[3], moves: 3, cost: 99, limit: 12 }.gives(0, plan, cost, 12);
+        Asked { rules: &rules, reach: 2, table: &table, start: &[0], goal: &[3], moves: 3, cost: 99, limit: 12 }.gives(0, plan, cost, 12);
     };
     plan([1, 1, 9, 1, 1, 1, 1], &[1, 2], 2);
     plan([1, 1, 2, 1, 1, 1, 1], &[3], 2);

@@ -17,6 +17,7 @@ pub mod writer;
 use crate::calls::{Answer, Call};
 use model::Set;
 use redundancy::Redundancy;
+use search_answer::Found;
 use touched::Touched;
 
 /// A rule file as judged, with the redundancies of each reach, and what each sequence touches, once they are asked for.
@@ -53,31 +54,32 @@ impl<'a> Judged<'a> {
         self.touched[reach - 1].get_or_insert_with(|| Touched::by_index(set, reach))
     }
 
-    /// What the call has to answer; its file is the one that was judged.
-    pub fn expected(&mut self, call: &Call) -> Answer {
-        let set = match self.set {
-            Err(outcome) => return refused_file(call, *outcome),
-            Ok(set) => set,
-        };
+    /// What a search has to find, whichever of its two entries is called; nothing for a call that is no search.
+    pub fn found(&mut self, call: &Call) -> Option<Found> {
         match call {
-            Call::Search { table, reach, query, plan_length, .. } => search_answer::search(self, set, table, *reach, query, *plan_length),
-            Call::Read { .. } => bare(0, vec![]),
-            Call::Rewrite { out_length, .. } => writer::rewritten(set, *out_length),
-            Call::TableSize { reach, .. } => table_answers::table_size(set, *reach),
-            Call::BuildTable { table_length, reach, .. } => table_answers::build(self, set, *table_length, *reach),
-            Call::CheckTable { table, reach, .. } => table_answers::check(self, set, table, *reach),
-            Call::Macro { moves, out_length, .. } => macro_answer::macro_of(set, moves, *out_length),
+            Call::Search { table, reach, query, plan_length, .. } | Call::SearchFloor { table, reach, query, plan_length, .. } => {
+                Some(search_answer::search(self, table, *reach, query, *plan_length))
+            }
+            _ => None,
         }
     }
-}
 
-/// "The C entry puts 1 to 4 before these." What each entry leaves in its buffer when refused.
-fn refused_file(call: &Call, outcome: u8) -> Answer {
-    let buffer = match call {
-        Call::Search { plan_length, .. } => vec![255; *plan_length],
-        Call::Rewrite { out_length, .. } | Call::Macro { out_length, .. } => vec![0; *out_length],
-        Call::BuildTable { table_length, .. } => vec![0; *table_length],
-        Call::Read { .. } | Call::TableSize { .. } | Call::CheckTable { .. } => vec![],
-    };
-    bare(outcome, buffer)
+    /// What the call has to answer; its file is the one that was judged. "The C entry puts 1 to 4 before these."
+    pub fn expected(&mut self, call: &Call) -> Answer {
+        match (call, self.set) {
+            (Call::Search { table, reach, query, plan_length, .. } | Call::SearchFloor { table, reach, query, plan_length, .. }, _) => {
+                search_answer::search(self, table, *reach, query, *plan_length).answer_to(call)
+            }
+            // what the others leave in their buffers when the file is refused
+            (Call::Rewrite { out_length, .. } | Call::Macro { out_length, .. }, Err(outcome)) => bare(*outcome, vec![0; *out_length]),
+            (Call::BuildTable { table_length, .. }, Err(outcome)) => bare(*outcome, vec![0; *table_length]),
+            (Call::Read { .. } | Call::TableSize { .. } | Call::CheckTable { .. }, Err(outcome)) => bare(*outcome, vec![]),
+            (Call::Read { .. }, Ok(_)) => bare(0, vec![]),
+            (Call::Rewrite { out_length, .. }, Ok(set)) => writer::rewritten(set, *out_length),
+            (Call::TableSize { reach, .. }, Ok(set)) => table_answers::table_size(set, *reach),
+            (Call::BuildTable { table_length, reach, .. }, Ok(set)) => table_answers::build(self, set, *table_length, *reach),
+            (Call::CheckTable { table, reach, .. }, Ok(set)) => table_answers::check(self, set, table, *reach),
+            (Call::Macro { moves, out_length, .. }, Ok(set)) => macro_answer::macro_of(set, moves, *out_length),
+        }
+    }
 }
