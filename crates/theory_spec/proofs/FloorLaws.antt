@@ -21,7 +21,7 @@ initial-snoc [] r = refl
 initial-snoc (p ∷ []) r = refl
 initial-snoc (p ∷ s ∷ x) r = ap {B = Sequence} (λ q. p ∷ q) (initial-snoc (s ∷ x) r)
 
--- a sequence of one rule or more is the rest of it and a last rule
+-- a sequence of one rule or more is what stands before its last rule, and that rule
 last-rule : (r : ℕ) (q : Sequence) → (s : ℕ) × ((r ∷ q) ≡ (initial (r ∷ q) ++ (s ∷ [])))
 last-rule r [] = (r, refl)
 last-rule r (s ∷ q) = let w = last-rule s q in (w .0, ap {B = Sequence} (λ l. r ∷ l) (w .1))

@@ -267,7 +267,7 @@ module _ {A B : Type 0} where
       go : (b b′ : B) → b ∈ f x → ((a : A) × (a ∈ xs) × (b′ ∈ f a)) → S b b′
       go b b′ d w = h x (w .0) (o .0 (w .0) (w .1)) b b′ d (w .2)
 
--- ── The first of a list, and the others ────────────────────────────────────────────────────────────
+-- ── The first of a list, and the others ──────────────────────────────────────────────────────────
 
 module _ {A : Type 0} where
   pub of-take : (n : ℕ) (l : List A) {a : A} → a ∈ take n l → a ∈ l

@@ -47,7 +47,7 @@ pub not-iff : (a : Bool) {P : Type 0} → (a ≡ true) ↔ P → (not a ≡ true
 not-iff true i = (λ e p. false≢true e, λ h. absurd (h (i .0 refl)))
 not-iff false i = (λ e p. false≢true (i .1 p), λ h. refl)
 
--- a test fails exactly if its statement does not hold, and the test of its failing exactly if it does
+-- a test fails exactly if its statement does not hold; the negated test fails exactly if it does
 pub fails-iff : (a : Bool) {P : Type 0} → (a ≡ true) ↔ P → (a ≡ false) ↔ (P → ⊥)
 fails-iff a i = (λ e p. not-both (i .1 p) e, λ n. never-true a (λ e. n (i .0 e)))
 
