@@ -449,64 +449,21 @@ pub plan-parts : map (planPart (1 ∷ 2 ∷ 255 ∷ [])) (0 ∷ 2 ∷ 3 ∷ 4 �
 unfolding planPart
 plan-parts = refl
 
+-- the five counts of a tally, in their order
+abbrev tallyOf : ℕ → ℕ → ℕ → ℕ → ℕ → Tally
+tallyOf solved unsolvable limited refused steps =
+    record { solved = solved; unsolvable = unsolvable; limited = limited; refused = refused; steps = steps }
+
 -- counts that are at their top or one below it
 abbrev full : Tally
-full =
-    record {
-      solved = 18446744073709551615;
-      unsolvable = 18446744073709551614;
-      limited = 5;
-      refused = 7;
-      steps =
-          18446744073709551610;
-    }
+full = tallyOf 18446744073709551615 18446744073709551614 5 7 18446744073709551610
 
 pub tallies : map (λ (outcome : ℕ). talliedOf full outcome 9) (0 ∷ 15 ∷ 16 ∷ 17 ∷ 18 ∷ [])
-    ≡ record {
-      solved =
-          18446744073709551615;
-      unsolvable = 18446744073709551614;
-      limited = 5;
-      refused = 7;
-      steps =
-          18446744073709551615;
-    }
-    ∷ record {
-      solved =
-          18446744073709551615;
-      unsolvable = 18446744073709551615;
-      limited = 5;
-      refused = 7;
-      steps =
-          18446744073709551615;
-    }
-    ∷ record {
-      solved =
-          18446744073709551615;
-      unsolvable = 18446744073709551614;
-      limited = 6;
-      refused = 7;
-      steps =
-          18446744073709551615;
-    }
-    ∷ record {
-      solved =
-          18446744073709551615;
-      unsolvable = 18446744073709551614;
-      limited = 5;
-      refused = 8;
-      steps =
-          18446744073709551615;
-    }
-    ∷ record {
-      solved =
-          18446744073709551615;
-      unsolvable = 18446744073709551614;
-      limited = 6;
-      refused = 7;
-      steps =
-          18446744073709551615;
-    }
+    ≡ tallyOf 18446744073709551615 18446744073709551614 5 7 18446744073709551615
+    ∷ tallyOf 18446744073709551615 18446744073709551615 5 7 18446744073709551615
+    ∷ tallyOf 18446744073709551615 18446744073709551614 6 7 18446744073709551615
+    ∷ tallyOf 18446744073709551615 18446744073709551614 5 8 18446744073709551615
+    ∷ tallyOf 18446744073709551615 18446744073709551614 6 7 18446744073709551615
     ∷ []
 unfolding talliedOf
 tallies = refl

@@ -3,6 +3,8 @@
 use buffers::fill_from;
 use model_spec::MOVE_LIMIT;
 use model_spec::RuleSet;
+use search_progress::floor_shown;
+use search_progress::outcome_of;
 use search_spec::Answer;
 use search_spec::NO_MOVE;
 use visits::explored;
@@ -14,7 +16,6 @@ ghost use Rattle.model_spec.specs.Limits.{moveLimit};
 ghost use Rattle.search_spec.specs.Query.{asked};
 ghost use Rattle.search_spec.specs.Searched.{Searched, searched, SearchMeaning};
 ghost use Rattle.search_spec.specs.PlanPart.{PartMeaning};
-ghost use Rattle.search_laws.specs.how.Visits.{outcomeOf, floorShown};
 
 // An answer without a plan.
 fn without_plan(outcome: u8, steps: u32) -> Answer
@@ -27,35 +28,6 @@ fn without_plan(outcome: u8, steps: u32) -> Answer
         steps,
         floor: 0,
     }
-}
-
-// The outcome of a query that is not refused, by whether its limit is exceeded and whether a plan is found.
-fn outcome_of(exceeded: bool, found: bool) -> u8
-    ensures { λ r. ⌜ r ≡ outcomeOf exceeded found ⌝ }
-{
-    if exceeded {
-        if found {
-            return 18;
-        }
-        return 16;
-    }
-    if !found {
-        return 15;
-    }
-    0
-}
-
-// The floor shown beside a plan: over the limit the lower of the plan's cost and the least cost met beyond it; else 0.
-fn floor_shown(exceeded: bool, cost: u16, least: u16) -> u16
-    ensures { λ r. ⌜ r ≡ floorShown exceeded cost least ⌝ }
-{
-    if !exceeded {
-        return 0;
-    }
-    if cost < least {
-        return cost;
-    }
-    least
 }
 
 // Puts the moves of a plan at the front of the buffer.

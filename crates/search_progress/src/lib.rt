@@ -1,4 +1,5 @@
-// What visiting a sequence makes of the search's progress: one step more, and the best plan so far.
+// What visiting a sequence makes of the search's progress: one step more, and the best plan so far. And what the
+// progress comes to: the outcome, and the floor.
 use bounded::smaller;
 use model_spec::MOVE_LIMIT;
 use model_spec::PLACE_COUNT;
@@ -10,7 +11,7 @@ ghost use Prim.Native.Nat.{min};
 ghost use lib.ListN.{take};
 ghost use Rattle.model_spec.specs.Limits.{placeCount};
 ghost use Rattle.search_spec.specs.Query.{meetsGoal};
-ghost use Rattle.search_laws.specs.how.Visits.{replaces, notedMoves};
+ghost use Rattle.search_laws.specs.how.Visits.{replaces, notedMoves, outcomeOf, floorShown};
 
 // Whether a state meets the first sixteen bytes of the goal: 255 in the goal asks for nothing.
 fn meets_goal(goal: &[u8], state: &[u8; PLACE_COUNT]) -> bool
@@ -105,4 +106,30 @@ pub fn noted(
         best,
         least: progress.least,
     }
+}
+
+// The outcome of a query that is not refused, by whether its limit is exceeded and whether a plan is found.
+pub fn outcome_of(exceeded: bool, found: bool) -> u8
+    ensures { λ r. ⌜ r ≡ outcomeOf exceeded found ⌝ }
+{
+    if exceeded {
+        if found {
+            return 18;
+        }
+        return 16;
+    }
+    if !found {
+        return 15;
+    }
+    0
+}
+
+// The floor shown beside a plan: over the limit the lower of the plan's cost and the least cost met beyond it; else 0.
+pub fn floor_shown(exceeded: bool, cost: u16, least: u16) -> u16
+    ensures { λ r. ⌜ r ≡ floorShown exceeded cost least ⌝ }
+{
+    if !exceeded {
+        return 0;
+    }
+    lower(cost, least)
 }

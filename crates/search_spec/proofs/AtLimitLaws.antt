@@ -14,7 +14,7 @@ use Rattle.theory_spec.specs.Sequences.{Sequence}
 use Rattle.theory_spec.specs.Frontier.{isIn, leastCost}
 use Rattle.theory_spec.proofs.ListLaws.{never-true, take-or-drop}
 use Rattle.theory_spec.proofs.CheapestLaws.{preferred-cost}
-use Rattle.theory_spec.proofs.FloorLaws.{is-in, least-start, least-below, Reached, least-reached, least-frontier}
+use Rattle.theory_spec.proofs.FloorLaws.{is-in, least-start, least-below, Attained, least-attained, least-frontier}
 use Rattle.model_spec.specs.Rules.{ruleCost, sequenceCost}
 use Rattle.model_spec.specs.declared.RuleSet.{RuleSet}
 use Rattle.search_spec.specs.Query.{Query, visitedBy, LeadsToGoal}
@@ -74,9 +74,9 @@ module _ (set : RuleSet) (query : Query) where
     floor-reached : (floor ≡ sequenceCost set p)
         ⊎ ((q : Sequence) × Frontier set query q × (floor ≡ sequenceCost set q))
     unfolding floorBeside sequenceCost
-    floor-reached = go (least-reached (ruleCost set) (sequenceCost set p) (frontierOf set query))
+    floor-reached = go (least-attained (ruleCost set) (sequenceCost set p) (frontierOf set query))
       where
-        go : Reached (ruleCost set) (sequenceCost set p) (frontierOf set query)
+        go : Attained (ruleCost set) (sequenceCost set p) (frontierOf set query)
             → (floorBeside set query p ≡ sequenceCost set p)
             ⊎ ((q : Sequence) × Frontier set query q × (floorBeside set query p ≡ sequenceCost set q))
         go (inl k) = inl k

@@ -1,11 +1,11 @@
 -- Demand 3, of the definition `searched`: its sentences over all rule sequences, for every query that is not refused.
 -- Assumes nothing.
 use mathlib.Core.Path.{_≡_, refl, sym, ap, _∙_, subst}
-use mathlib.Core.Logic.{_⊎_, inl, inr}
-use mathlib.Core.Bool.{Bool, true, false, not, _&&_}
+use mathlib.Core.Logic.{_⊎_, _≢_, inl, inr}
+use mathlib.Core.Bool.{Bool, true, false, not, _&&_, cond}
 use mathlib.Core.Option.{Option, some, none}
 use mathlib.Core.List.{List, [], _∷_}
-use Prim.Native.Nat.{ℕ, suc, _-_, _≤_, _<_}
+use Prim.Native.Nat.{ℕ, suc, min, _-_, _≤_, _<_}
 use native.Mathlib.Omega.{arith}
 use lib.Dec.{lit≤}
 use lib.ListN.{length, replicate}
@@ -22,7 +22,7 @@ use Rattle.tables_spec.specs.Answers.{tableCauses}
 use Rattle.search_spec.specs.Query.{Query, visitedBy, plansFor, LeadsToGoal}
 use Rattle.search_spec.specs.Looked.{exceedsLimit, cheapestLooked}
 use Rattle.search_spec.specs.Searched.{queryCauses, cheapestPlan, searchCauses, shownPlan, planOf, noMove}
-use Rattle.search_spec.specs.Searched.{Searched, searchedWith, searched, NotRefused, Limited, Demand3}
+use Rattle.search_spec.specs.Searched.{isAnswer, Searched, searchedWith, searched, NotRefused, Limited, Demand3}
 use Rattle.search_spec.proofs.VisitedLaws.{visited-iff, visited-once, plans-iff, plans-ordered}
 
 pub query-numbers : (set : RuleSet) (query : Query) (room : ℕ) → NonZero (queryCauses set query room)
@@ -163,28 +163,17 @@ module _ (set : RuleSet) (query : Query) where
         Holds : ℕ → Type 0
         Holds outcome = Demand3 set query room (searchedWith set query room outcome)
 
-        withLooked : query .stepLimit < count → Holds 18
-        withLooked above =
+        -- over the limit, with 18 or with 16
+        limited : (n : ℕ) → isAnswer n ≡ true → n ≢ 0 → Limited n → query .stepLimit < count → Holds n
+        limited n y positive w above =
             record {
               counted = visited-iff set query;
               once = visited-once set query;
-              steps = refl;
-              limitExceeded = (λ _. above, λ _. inr refl);
-              noPlan = λ n. absurd (n (inr refl));
-              planFound = λ n. absurd (n (inr refl));
-              cheapestShown = λ e. absurd (omega arith);
-            }
-
-        withoutLooked : query .stepLimit < count → Holds 16
-        withoutLooked above =
-            record {
-              counted = visited-iff set query;
-              once = visited-once set query;
-              steps = refl;
-              limitExceeded = (λ _. above, λ _. inl refl);
-              noPlan = λ n. absurd (n (inl refl));
-              planFound = λ n. absurd (n (inl refl));
-              cheapestShown = λ e. absurd (omega arith);
+              steps = ap (λ b. cond b (min count (query .stepLimit)) 0) y;
+              limitExceeded = (λ _. above, λ _. w);
+              noPlan = λ no. absurd (no w);
+              planFound = λ no. absurd (no w);
+              cheapestShown = λ e. absurd (positive e);
             }
 
         unlimited : (n : ℕ) → n ≤ 15 → Limited n → ⊥
@@ -221,7 +210,7 @@ module _ (set : RuleSet) (query : Query) where
 
         byWay : (outcome : ℕ) → (PlanLooked outcome ⊎ NoneLooked outcome) ⊎ (Unsolvable outcome ⊎ Solved outcome)
             → Holds outcome
-        byWay outcome (inl (inl w)) = subst Holds (sym (w .1)) (withLooked (w .0))
-        byWay outcome (inl (inr w)) = subst Holds (sym (w .1)) (withoutLooked (w .0))
+        byWay outcome (inl (inl w)) = subst Holds (sym (w .1)) (limited 18 refl (λ e. omega arith) (inr refl) (w .0))
+        byWay outcome (inl (inr w)) = subst Holds (sym (w .1)) (limited 16 refl (λ e. omega arith) (inl refl) (w .0))
         byWay outcome (inr (inl w)) = subst Holds (sym (w .2)) (unsolvable (w .0) (w .1))
         byWay outcome (inr (inr w)) = subst Holds (sym (w .2)) (solved (w .0) (w .1 .0) (w .1 .1))

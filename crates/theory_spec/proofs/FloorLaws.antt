@@ -76,15 +76,15 @@ module _ (cost : ℕ → ℕ) (c : ℕ) where
   least-greatest b [] h k = h
   least-greatest b (q ∷ l) h k = omega (arith, k q (here q l), least-greatest b l h (λ p d. k p (List·Memᴰ·tail d)))
 
-  -- it is c, or what one of them costs
-  abbrev pub Reached : List Sequence → Type 0
-  Reached l = (leastCost cost c l ≡ c) ⊎ ((q : Sequence) × (q ∈ l) × (leastCost cost c l ≡ costOf cost q))
+  -- the least cost is c, or what one of them costs
+  abbrev pub Attained : List Sequence → Type 0
+  Attained l = (leastCost cost c l ≡ c) ⊎ ((q : Sequence) × (q ∈ l) × (leastCost cost c l ≡ costOf cost q))
 
-  pub least-reached : (l : List Sequence) → Reached l
-  least-reached [] = inl refl
-  least-reached (q ∷ l) = go (below? (leastCost cost c l) (costOf cost q)) (least-reached l)
+  pub least-attained : (l : List Sequence) → Attained l
+  least-attained [] = inl refl
+  least-attained (q ∷ l) = go (below? (leastCost cost c l) (costOf cost q)) (least-attained l)
     where
-      go : (leastCost cost c l < costOf cost q) ⊎ (costOf cost q ≤ leastCost cost c l) → Reached l → Reached (q ∷ l)
+      go : (leastCost cost c l < costOf cost q) ⊎ (costOf cost q ≤ leastCost cost c l) → Attained l → Attained (q ∷ l)
       go (inl k) (inl e) = inl (omega arith)
       go (inl k) (inr w) = inr (w .0, List·Memᴰ·tail (w .1), omega (arith, w .2))
       go (inr k) _ = inr (q, here q l, omega arith)

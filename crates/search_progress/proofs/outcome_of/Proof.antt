@@ -1,9 +1,9 @@
--- `search::outcome_of` meets its contract.
+-- `search_progress::outcome_of` meets its contract.
 -- Assumes nothing.
 use borrow.Author.Tests.{not-true, not-false}
 use Rattle.search_laws.specs.how.Visits.{outcomeOf}
-use Rattle.search.proofs.outcome_of.Statement.{statement}
-use Rattle.search.proofs.outcome_of.Tie as tie
+use Rattle.search_progress.proofs.outcome_of.Statement.{statement}
+use Rattle.search_progress.proofs.outcome_of.Tie as tie
 
 returns : tie.Need-returns
 unfolding outcomeOf
