@@ -1,6 +1,7 @@
 // Composition: the vectors of a sequence, rule after rule. Document 01 asks for entry arrays of sixteen that go in and
-// come back by value, without a lent buffer; so `value_in` and `followed` do by value what `states`' `value` and
-// `after` do on arrays that are lent.
+// come back by value, without a lent buffer; so `stands_for` and `followed` do by value what `states`' `value` and
+// `after` do on arrays that are lent. Both vectors travel in one struct that is changed in place: document 02 allows
+// one copy of the effect for each rule, and none of the condition.
 use macros_spec::Vectors;
 use model_spec::FIRST_VARIABLE;
 use model_spec::MAX_POSITIONS;
@@ -8,14 +9,14 @@ use model_spec::PLACE_COUNT;
 use model_spec::Rule;
 use model_spec::RuleSet;
 ghost use mathlib.Core.Path.{_≡_};
-ghost use mathlib.Core.Bool.{cond};
+ghost use mathlib.Core.Bool.{true, not, cond};
 ghost use mathlib.Core.Option.{some, none};
 ghost use Prim.Native.Nat.{min, max, _+_, _<_};
-ghost use lib.Dec.{ltb};
+ghost use lib.Dec.{eqb};
 ghost use Rattle.model_spec.specs.Limits.{placeCount, firstVariable};
-ghost use Rattle.model_spec.specs.States.{valueOf, valuesOf};
+ghost use Rattle.model_spec.specs.States.{isConstant, valuesOf};
 ghost use Rattle.model_spec.specs.Validity.{Valid};
-ghost use Rattle.macros_spec.specs.Composition.{ownVariables, emptyLines, replaced, unified, extended};
+ghost use Rattle.macros_spec.specs.Composition.{Lines, ownVariables, emptyLines, replaced, unified, extended};
 ghost use Rattle.macros_spec.specs.Composition.{asVectors, linesOf};
 ghost use Rattle.macros_spec.specs.VectorMeaning.{EmptyMeaning, ExtendedMeaning};
 
@@ -33,30 +34,26 @@ fn smaller(x: u8, y: u8) -> u8
     if x < y { x } else { y }
 }
 
-// What an entry stands for in a vector of entries.
-fn value_in(entries: [u8; PLACE_COUNT], entry: u8) -> u8
-    ensures { λ r. ⌜ r ≡ valueOf entry entries ⌝ }
+// What an entry stands for, where `held` stands at a variable's place.
+fn stands_for(entry: u8, held: u8) -> u8
+    ensures { λ r. ⌜ r ≡ cond (isConstant entry) entry held ⌝ }
 {
-    if entry < FIRST_VARIABLE {
-        return entry;
-    }
-    let place = (entry % MAX_POSITIONS) as usize;
-    entries[place]
+    if entry < FIRST_VARIABLE { entry } else { held }
 }
 
-// The entries with `to` in the place of every `from`.
-fn replaced(from: u8, to: u8, entries: [u8; PLACE_COUNT]) -> [u8; PLACE_COUNT]
-    ensures { λ r. ⌜ r ≡ replaced from to entries ⌝ }
+// An entry, with `to` in the place of `from`.
+fn exchanged(from: u8, to: u8, entry: u8) -> u8
+    ensures { λ r. ⌜ r ≡ cond (eqb entry from) to entry ⌝ }
 {
-    let mut changed = entries;
-    let mut i: usize = 0;
-    while i < PLACE_COUNT {
-        if changed[i] == from {
-            changed[i] = to;
-        }
-        i += 1;
-    }
-    changed
+    if entry == from { to } else { entry }
+}
+
+// Whether an entry of a condition asks anything: the variable of its own place does not.
+fn asks(entry: u8, i: usize) -> bool
+    requires { ⌜ i < placeCount ⌝ }
+    ensures { λ r. ⌜ r ≡ not (eqb entry (firstVariable + i)) ⌝ }
+{
+    entry as usize != FIRST_VARIABLE as usize + i
 }
 
 // No vectors: no state admits the sequence.
@@ -70,52 +67,67 @@ fn denied() -> Vectors
     }
 }
 
-// Place by place, what the effect holds made equal to what the next condition asks, both read in the effect as it now
-// stands. Nothing is replaced where the two agree.
-fn unified(
-    condition: [u8; PLACE_COUNT],
-    effect: [u8; PLACE_COUNT],
-    asked: [u8; PLACE_COUNT],
-) -> Vectors
-    ensures { λ r. ⌜ r ≡ asVectors (unified asked 0 (record { condition = condition; effect = effect })) ⌝ }
+// Both vectors with `to` in the place of every `from`.
+fn replaced(from: u8, to: u8, mut sequence: Vectors) -> Vectors
+    ensures { λ r. ⌜
+        (r .admitted ≡ sequence .admitted)
+        × (r .condition ≡ replaced from to (sequence .condition))
+        × (r .effect ≡ replaced from to (sequence .effect)) ⌝ }
 {
-    let mut needed = condition;
-    let mut held = effect;
     let mut i: usize = 0;
     while i < PLACE_COUNT {
-        let have = held[i];
-        let want = value_in(held, asked[i]);
-        if have != want {
-            let from = larger(have, want);
-            let to = smaller(have, want);
-            if from < FIRST_VARIABLE {
-                return denied();
+        sequence.condition[i] = exchanged(from, to, sequence.condition[i]);
+        sequence.effect[i] = exchanged(from, to, sequence.effect[i]);
+        i += 1;
+    }
+    sequence
+}
+
+// Place by place, what the effect holds made equal to what the next condition asks, both read in the effect as it now
+// stands. Nothing is replaced where the two agree; they do where the condition asks nothing.
+fn unified(mut sequence: Vectors, asked: [u8; PLACE_COUNT]) -> Vectors
+    requires { ⌜ sequence .admitted ≡ true ⌝ }
+    ensures { λ r. ⌜
+        (let lines : Lines = record { condition = sequence .condition; effect = sequence .effect } in
+        r ≡ asVectors (unified asked 0 lines)) ⌝ }
+{
+    let mut i: usize = 0;
+    while i < PLACE_COUNT {
+        let entry = asked[i];
+        if asks(entry, i) {
+            let place = (entry % MAX_POSITIONS) as usize;
+            let have = sequence.effect[i];
+            let want = stands_for(entry, sequence.effect[place]);
+            if have != want {
+                let from = larger(have, want);
+                let to = smaller(have, want);
+                if from < FIRST_VARIABLE {
+                    return denied();
+                }
+                sequence = replaced(from, to, sequence);
             }
-            let next_needed = replaced(from, to, needed);
-            let next_held = replaced(from, to, held);
-            needed = next_needed;
-            held = next_held;
         }
         i += 1;
     }
-    Vectors {
-        admitted: true,
-        condition: needed,
-        effect: held,
-    }
+    sequence
 }
 
-// The entries that an effect leads to; all of them are read in the vector before.
-fn followed(effect: [u8; PLACE_COUNT], entries: [u8; PLACE_COUNT]) -> [u8; PLACE_COUNT]
-    ensures { λ r. ⌜ r ≡ valuesOf effect entries ⌝ }
+// The next rule's effect follows. Its entries are read in the effect before: the one copy of a vector that is made.
+fn followed(mut sequence: Vectors, last: [u8; PLACE_COUNT]) -> Vectors
+    ensures { λ r. ⌜
+        (r .admitted ≡ sequence .admitted)
+        × (r .condition ≡ sequence .condition)
+        × (r .effect ≡ valuesOf last (sequence .effect)) ⌝ }
 {
-    let mut next = effect;
+    let held = sequence.effect;
     let mut i: usize = 0;
     while i < PLACE_COUNT {
-        next[i] = value_in(entries, effect[i]);
+        let entry = last[i];
+        let place = (entry % MAX_POSITIONS) as usize;
+        sequence.effect[i] = stands_for(entry, held[place]);
         i += 1;
     }
-    next
+    sequence
 }
 
 // A rule after a sequence; one that no state admits stays so.
@@ -127,43 +139,24 @@ pub fn extended(sequence: Vectors, rule: Rule) -> Vectors
     if !sequence.admitted {
         return denied();
     }
-    let condition = sequence.condition;
-    let effect = sequence.effect;
     let asked = rule.condition;
     let last = rule.effect;
-    let met = unified(condition, effect, asked);
+    let met = unified(sequence, asked);
     if !met.admitted {
         return denied();
     }
-    let needed = met.condition;
-    let held = met.effect;
-    let reached = followed(last, held);
-    Vectors {
-        admitted: true,
-        condition: needed,
-        effect: reached,
-    }
+    followed(met, last)
 }
 
-// The entry at place i of the empty sequence's vectors: the variable of the place, and 0 beyond the positions.
-fn own_variable(positions: u8, i: u8) -> u8
-    requires { ⌜ i < placeCount ⌝ }
-    ensures { λ r. ⌜ r ≡ cond (ltb i positions) (firstVariable + i) 0 ⌝ }
-{
-    if i < positions {
-        return FIRST_VARIABLE + i;
-    }
-    0
-}
-
-// The condition of the empty sequence, which is its effect too.
+// The condition of the empty sequence, which is its effect too: each position's variable in its own place, then zeros.
 fn own_variables(positions: u8) -> [u8; PLACE_COUNT]
     ensures { λ r. ⌜ r ≡ ownVariables positions ⌝ }
 {
     let mut entries = [0u8; PLACE_COUNT];
+    let count = smaller(positions, MAX_POSITIONS);
     let mut i: u8 = 0;
-    while i < MAX_POSITIONS {
-        entries[i as usize] = own_variable(positions, i);
+    while i < count {
+        entries[i as usize] = FIRST_VARIABLE + i;
         i += 1;
     }
     entries

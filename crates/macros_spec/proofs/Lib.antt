@@ -22,3 +22,4 @@ pub mod RunLaws
 pub mod UniqueLaws
 pub mod VectorLaws
 pub mod VectorMeaningLaws
+pub mod VectorsShape

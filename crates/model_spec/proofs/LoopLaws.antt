@@ -11,7 +11,7 @@ use native.Mathlib.Numerals.{add-one}
 use native.Mathlib.Omega.{arith}
 use lib.ListN.{length, getD, set, drop, drop-of-length-le}
 use lib.Dec.{eqb}
-use lib.Seq.{drop-cons, set-getD}
+use lib.Seq.{drop-cons}
 use borrow.Author.Tests.{eq-eqb, ne-eqb, not-true, not-false}
 use Rattle.theory_spec.specs.Lists.{any, every, numbersFrom, same}
 use Rattle.theory_spec.specs.how.Firsts.{firstThat}
@@ -123,16 +123,16 @@ pub front-more : (f : ℕ → ℕ) (i : ℕ) (l r : List ℕ) (v : ℕ) → r �
 front-more f i l r v h e = rw (e, h, add-one i) (front-suc f i l)
 
 -- what is not yet mapped is as it was
-pub front-at : (f : ℕ → ℕ) (i : ℕ) (l r : List ℕ) → r ≡ front f i l → getD r i 0 ≡ getD l i 0
+front-at : (f : ℕ → ℕ) (i : ℕ) (l r : List ℕ) → r ≡ front f i l → getD r i 0 ≡ getD l i 0
 unfolding front
 front-at f zero l r h = rw h
 front-at f (suc i) [] r h = rw h
 front-at f (suc i) (x ∷ l) r h = rw h (front-at f i l (front f i l) refl)
 
--- no store at i, where f leaves what is there
-pub front-same : (f : ℕ → ℕ) (i : ℕ) (l r : List ℕ) → r ≡ front f i l → f (getD r i 0) ≡ getD r i 0
-    → r ≡ front f (i + 1) l
-front-same f i l r h e = sym (set-getD r i 0) ∙ front-more f i l r (getD r i 0) h (sym e ∙ ap f (front-at f i l r h))
+-- a store at i of f of what is there
+pub front-next : (f : ℕ → ℕ) (i : ℕ) (l r : List ℕ) (v : ℕ) → r ≡ front f i l → v ≡ f (getD r i 0)
+    → set r i v ≡ front f (i + 1) l
+front-next f i l r v h e = front-more f i l r v h (e ∙ ap f (front-at f i l r h))
 
 pub front-all : (f : ℕ → ℕ) (i : ℕ) (l : List ℕ) → length l ≤ i → front f i l ≡ map f l
 unfolding front

@@ -2,6 +2,7 @@
 -- is unified with the rule's condition.
 -- Assumes nothing.
 use mathlib.Core.Path.{_≡_, refl, sym, ap, _∙_, subst}
+use mathlib.Core.Bool.{true}
 use mathlib.Core.Option.{Option, some}
 use borrow.Author.Needs.{needs}
 use borrow.Author.Tests.{not-true, not-false}
@@ -24,9 +25,7 @@ found sequence rule r lines e own =
 
 -- the sequence has vectors
 abbrev admittedAt : tie.After-unified → tie.Else1
-admittedAt c =
-    let copied = c .before .before .before in
-    copied .before .before
+admittedAt c = c .before .before .before
 
 abbrev startOf : tie.Else1 → tie.Start
 startOf c = c .before .before
@@ -41,7 +40,7 @@ returns c =
     (extend-denied (a .rule) (a .sequence) (not-true _ (c .before .if1 .taken)))
 
 unified-requires : tie.Need-unified-requires
-unified-requires c κs = search needs
+unified-requires c κs = not-false _ (c .before .before .if1 .left)
 
 denied-requires-2 : tie.Need-denied-requires-2
 denied-requires-2 c κs = search needs
@@ -60,13 +59,16 @@ followed-requires c κs = search needs
 
 returns-3 : tie.Need-returns-3
 returns-3 c =
-    let f = c .before .before .before in
+    let f = c .before in
     let u = f .before .before in
     let e = admittedAt u in
     let a = startOf e .args in
-    found (a .sequence) (a .rule) _ (some (record { condition = _; effect = _ })) refl
-    (extend-met (a .rule) (a .sequence) (not-false _ (e .if1 .left)) (u .unified .result) (u .unified .ensures)
-    _ (not-false _ (f .if2 .left)) (c .followed .ensures))
+    let met : Vectors = u .unified .result in
+    let admitted : met .admitted ≡ true = not-false _ (f .if2 .left) in
+    let (kept, same, reached) = c .followed .ensures in
+    found (a .sequence) (a .rule) _ (some (record { condition = met .condition; effect = _ }))
+    (λ i. record { admitted = (kept ∙ admitted) i; condition = same i; effect = c .followed .result .effect })
+    (extend-met (a .rule) (a .sequence) (not-false _ (e .if1 .left)) met (u .unified .ensures) _ admitted reached)
 
 pub extended-spec : {M : Type 1} → statement M
 extended-spec =
