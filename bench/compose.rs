@@ -1,6 +1,4 @@
-// The work of the program `bench_macros` in plain Rust, unproved: a million two-rule macros of the rule file on
-// standard input; or, where a line with a list of rule numbers stands before the file, the macros of that sequence and
-// its rotations, 250,000 in all. It reads files that have no fault.
+// The work of the program `bench_macros` in plain Rust, unproved: a million two-rule macros of the rule file on standard input. It reads files that have no fault.
 use std::io::Read;
 
 type Entries = [u8; 16];
@@ -50,64 +48,11 @@ fn extend(condition: &mut Entries, effect: &mut Entries, rule: &Rule) -> bool {
     true
 }
 
-// What is counted of the macros: those that some state admits, the sum of their entries, and the sum of that sum after
-// each entry.
-#[derive(Default)]
-struct Totals {
-    admitted: u64,
-    sum: u64,
-    sums: u64,
-}
-
-impl Totals {
-    fn add(&mut self, condition: &Entries, effect: &Entries) {
-        self.admitted += 1;
-        for entry in condition.iter().chain(effect.iter()) {
-            self.sum = self.sum.wrapping_add(*entry as u64);
-            self.sums = self.sums.wrapping_add(self.sum);
-        }
-    }
-}
-
-// A million pairs of rules, in their order, from the first again after the last.
-fn pairs(own: Entries, rules: &[Rule]) -> Totals {
-    let mut totals = Totals::default();
-    let (mut first, mut second) = (0, 0);
-    for _ in 0..1_000_000 {
-        let (mut condition, mut effect) = (own, own);
-        if extend(&mut condition, &mut effect, &rules[first]) && extend(&mut condition, &mut effect, &rules[second]) {
-            totals.add(&condition, &effect);
-        }
-        second = (second + 1) % rules.len();
-        if second == 0 {
-            first = (first + 1) % rules.len();
-        }
-    }
-    totals
-}
-
-// The sequence of a list and its rotations, each begun one place later than the one before.
-fn rotations(own: Entries, rules: &[Rule], list: &str) -> Totals {
-    let sequence: Vec<usize> = list.split(',').map(|number| number.parse().unwrap()).collect();
-    let mut totals = Totals::default();
-    for turn in 0..250_000 {
-        let (end, start) = sequence.split_at(turn % sequence.len());
-        let (mut condition, mut effect) = (own, own);
-        let mut moves = start.iter().chain(end);
-        if moves.all(|number| extend(&mut condition, &mut effect, &rules[number - 1])) {
-            totals.add(&condition, &effect);
-        }
-    }
-    totals
-}
-
 fn main() {
     let mut text = String::new();
     std::io::stdin().read_to_string(&mut text).unwrap();
     let list = |line: &str| entries(line.split_once('=').unwrap().1);
-    let (head, file) = text.split_once('\n').unwrap();
-    let is_list = !head.starts_with("positions=");
-    let lines: Vec<&str> = if is_list { file } else { &text }.lines().collect();
+    let lines: Vec<&str> = text.lines().collect();
     let positions: usize = lines[0].split_once('=').unwrap().1.parse().unwrap();
     let rules: Vec<Rule> = lines[3..]
         .chunks(3)
@@ -117,6 +62,21 @@ fn main() {
     for place in 0..positions {
         own[place] = 16 + place as u8;
     }
-    let Totals { admitted, sum, sums } = if is_list { rotations(own, &rules, head) } else { pairs(own, &rules) };
+    let (mut admitted, mut sum, mut sums) = (0u64, 0u64, 0u64);
+    let (mut first, mut second) = (0, 0);
+    for _ in 0..1_000_000 {
+        let (mut condition, mut effect) = (own, own);
+        if extend(&mut condition, &mut effect, &rules[first]) && extend(&mut condition, &mut effect, &rules[second]) {
+            admitted += 1;
+            for entry in condition.iter().chain(effect.iter()) {
+                sum = sum.wrapping_add(*entry as u64);
+                sums = sums.wrapping_add(sum);
+            }
+        }
+        second = (second + 1) % rules.len();
+        if second == 0 {
+            first = (first + 1) % rules.len();
+        }
+    }
     println!("outcome=0\nadmitted={admitted}\nsum={sum}\nsums={sums}");
 }

@@ -1,7 +1,9 @@
 //! Document 02, 2026-04: "composing one more rule shall copy the macro's effect vector at most once and its condition
 //! vector never. A copy is a variable or field set whole from another, parameters and results left aside, counted in
 //! the source with all functions called." The source is read line by line, as the formatter lays it out. A line that
-//! sets something is listed unless its value is plainly no copy; a line that is listed in vain has to be made plainer.
+//! sets something is listed unless its value is plainly new; a line that is listed in vain has to be made plainer. Types
+//! are not known: an element bound by `let` is taken for a number, as all arrays here hold bytes, and a loop that hands
+//! each entry through a function or an operation that changes nothing is not seen.
 
 use std::collections::HashMap;
 
@@ -132,7 +134,7 @@ fn a_function_of_another_source() {
     listed("pub fn extended() -> u8 {\n    value(0)\n}");
 }
 
-/// The composition before the request, without its contracts; what is listed is marked.
+/// `extended` before the request and all that it called, without contracts; what is listed is marked.
 const BEFORE: &str = "\
 fn larger(x: u8, y: u8) -> u8 {
     if x < y { y } else { x }

@@ -54,6 +54,11 @@ swapped = ruleSet "positions=2\nsizes=3,3\nrules=2\ncost=1\nif=x1,x2\nthen=x2,x1
 abbrev twice : RuleSet
 twice = ruleSet "positions=3\nsizes=4,4,4\nrules=1\ncost=1\nif=0,1,x3\nthen=x3,x3,3\n"
 
+-- a copy, then a rule that asks 0 of it and, at the last position, what the first holds: read in the effect before the 0
+-- came, the first would still be a variable
+abbrev copied : RuleSet
+copied = ruleSet "positions=3\nsizes=3,3,3\nrules=2\ncost=1\nif=x1,x2,x3\nthen=x1,x1,x3\ncost=1\nif=x1,0,x1\nthen=x1,0,x1\n"
+
 abbrev composed-to : List ℕ → List ℕ → ℕ → ℕ → ℕ → Reply
 composed-to condition effect cost reads writes =
     composes (record {
@@ -84,6 +89,7 @@ macros =
     ∷ record { asked = macroOf swapped (1 ∷ 1 ∷ []); expected = composed-to (16 ∷ 17 ∷ []) (16 ∷ 17 ∷ []) 2 0 0 }
     ∷ record { asked = macroOf swapped []; expected = composed-to (16 ∷ 17 ∷ []) (16 ∷ 17 ∷ []) 0 0 0 }
     ∷ record { asked = macroOf twice (1 ∷ 1 ∷ []); expected = macro-refused 17 }
+    ∷ record { asked = macroOf copied (1 ∷ 2 ∷ []); expected = composed-to (0 ∷ 17 ∷ []) (0 ∷ 0 ∷ []) 2 5 2 }
     -- the outcome goes by the states, so the composition is asked by itself
     ∷ record { asked = compose twice (1 ∷ 1 ∷ []); expected = vectors none }
     ∷ record {

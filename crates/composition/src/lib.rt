@@ -1,7 +1,7 @@
 // Composition: the vectors of a sequence, rule after rule. Document 01 asks for entry arrays of sixteen that go in and
-// come back by value, without a lent buffer; so `stands_for` and `followed` do by value what `states`' `value` and
-// `after` do on arrays that are lent. Both vectors travel in one struct that is changed in place: document 02 allows
-// one copy of the effect for each rule, and none of the condition.
+// come back by value, without a lent buffer; so `followed` does by value what `states`' `after` does on arrays that
+// are lent. Both vectors travel in one struct that is changed in place: document 02 allows one copy of the effect for
+// each rule, and none of the condition.
 use macros_spec::Vectors;
 use model_spec::FIRST_VARIABLE;
 use model_spec::MAX_POSITIONS;
@@ -112,7 +112,7 @@ fn unified(mut sequence: Vectors, asked: [u8; PLACE_COUNT]) -> Vectors
     sequence
 }
 
-// The next rule's effect follows. Its entries are read in the effect before: the one copy of a vector that is made.
+// The next rule's effect follows. Its entries are read in the effect before, the one copy of the macro's vectors.
 fn followed(mut sequence: Vectors, last: [u8; PLACE_COUNT]) -> Vectors
     ensures { λ r. ⌜
         (r .admitted ≡ sequence .admitted)

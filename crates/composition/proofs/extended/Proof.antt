@@ -6,6 +6,7 @@ use mathlib.Core.Bool.{true}
 use mathlib.Core.Option.{Option, some}
 use borrow.Author.Needs.{needs}
 use borrow.Author.Tests.{not-true, not-false}
+use Rattle.model_spec.specs.States.{valuesOf}
 use Rattle.model_spec.specs.declared.Rule.{Rule}
 use Rattle.macros_spec.specs.Composition.{Lines, extended, asVectors, linesOf}
 use Rattle.macros_spec.specs.VectorMeaning.{ExtendedMeaning}
@@ -65,9 +66,12 @@ returns-3 c =
     let a = startOf e .args in
     let met : Vectors = u .unified .result in
     let admitted : met .admitted ≡ true = not-false _ (f .if2 .left) in
-    let (kept, same, reached) = c .followed .ensures in
-    found (a .sequence) (a .rule) _ (some (record { condition = met .condition; effect = _ }))
-    (λ i. record { admitted = (kept ∙ admitted) i; condition = same i; effect = c .followed .result .effect })
+    let longer : Vectors = c .followed .result in
+    let reached : longer .effect ≡ valuesOf (a .rule .effect) (met .effect) = c .followed .ensures .2 in
+    let same : longer .condition ≡ met .condition = c .followed .ensures .1 in
+    let kept : longer .admitted ≡ true = c .followed .ensures .0 ∙ admitted in
+    found (a .sequence) (a .rule) _ (some (record { condition = met .condition; effect = longer .effect }))
+    (λ i. record { admitted = kept i; condition = same i; effect = longer .effect })
     (extend-met (a .rule) (a .sequence) (not-false _ (e .if1 .left)) met (u .unified .ensures) _ admitted reached)
 
 pub extended-spec : {M : Type 1} → statement M
