@@ -5,9 +5,9 @@ use mathlib.Core.Path.{_≡_, refl, sym, ap, _∙_}
 use mathlib.Core.Logic.{⊎-elim}
 use mathlib.Core.Bool.{true}
 use mathlib.Core.Option.{some}
-use Prim.Native.Nat.{_≤_, _-_}
+use Prim.Native.Nat.{_+_, _≤_, _<_, _-_}
 use native.Mathlib.Omega.{arith}
-use lib.ListN.{drop}
+use lib.ListN.{length, drop}
 use borrow.Author.Needs.{needs}
 use Rattle.model_spec.specs.States.{valueOf}
 use Rattle.macros_spec.specs.Composition.{Lines, unified, asVectors}
@@ -96,24 +96,26 @@ loop-again c =
     let turn = c .before .before in
     let l = turn .before .loop in
     let asked = startOf turn .args .t2 in
+    let within : l .i < length asked = omega arith in
+    let next : l .i + 1 ≤ 16 = omega arith in
     let m = linesIn (l .sequence) in
     ⊎-elim
     (λ w. rw (w .9) (
-      search needs,
+      next,
       w .8 .ensures .0 ∙ l .inv .1,
-      unify-go asked (l .i) m _ (l .inv .2) (omega arith) _ _ refl (w .3 .ensures)
+      unify-go asked (l .i) m _ (l .inv .2) within _ _ refl (w .3 .ensures)
           _ _ _ _ (w .5 .ensures) (w .6 .ensures) (w .7 .left) (w .8 .ensures .1) (w .8 .ensures .2),
     ))
     (⊎-elim
     (λ w. rw (w .5) (
-      search needs,
+      next,
       l .inv .1,
-      unify-same asked (l .i) m _ (l .inv .2) (omega arith) _ _ refl (w .3 .ensures) (w .4 .left),
+      unify-same asked (l .i) m _ (l .inv .2) within _ _ refl (w .3 .ensures) (w .4 .left),
     ))
     (λ w. rw (w .1) (
-      search needs,
+      next,
       l .inv .1,
-      unify-own asked (l .i) m _ (l .inv .2) (omega arith) (omega arith) (sym (c .before .asks .ensures) ∙ w .0 .left),
+      unify-own asked (l .i) m _ (l .inv .2) within (omega (arith, next)) (sym (c .before .asks .ensures) ∙ w .0 .left),
     )))
     (c .if1 .came)
 
