@@ -1,6 +1,6 @@
-// The work of the program `bench_macros` on a list of rules in plain Rust, unproved: the macros of the sequence that the
-// first line of standard input names, and of its rotations, 250,000 in all, by the rules of the file behind it. It reads
-// files that have no fault.
+// The work of the program `bench_macros` on a list of rules in plain Rust, unproved: the macros of the sequence that
+// the first line of standard input names, and of its rotations, 250,000 in all, by the rules of the file behind it. It
+// reads files that have no fault.
 use std::io::Read;
 
 type Entries = [u8; 16];

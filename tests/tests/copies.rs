@@ -1,9 +1,9 @@
 //! Document 02, 2026-04: "composing one more rule shall copy the macro's effect vector at most once and its condition
 //! vector never. A copy is a variable or field set whole from another, parameters and results left aside, counted in
 //! the source with all functions called." The source is read line by line, as the formatter lays it out. A line that
-//! sets something is listed unless its value is plainly new; a line that is listed in vain has to be made plainer. Types
-//! are not known: an element bound by `let` is taken for a number, as all arrays here hold bytes, and a loop that hands
-//! each entry through a function or an operation that changes nothing is not seen.
+//! sets something is listed unless its value is plainly new; a line that is listed in vain has to be made plainer.
+//! Types are not known: an element bound by `let` is taken for a number, as all arrays here hold bytes, and a loop that
+//! hands each entry through a function or an operation that changes nothing is not seen.
 
 use std::collections::HashMap;
 

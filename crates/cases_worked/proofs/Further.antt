@@ -54,8 +54,8 @@ swapped = ruleSet "positions=2\nsizes=3,3\nrules=2\ncost=1\nif=x1,x2\nthen=x2,x1
 abbrev twice : RuleSet
 twice = ruleSet "positions=3\nsizes=4,4,4\nrules=1\ncost=1\nif=0,1,x3\nthen=x3,x3,3\n"
 
--- a copy, then a rule that asks 0 of it and, at the last position, what the first holds: read in the effect before the 0
--- came, the first would still be a variable
+-- a copy, then a rule that asks 0 of it and, at the last position, what the first holds: read in the effect before the
+-- 0 came, the first would still be a variable
 abbrev copied : RuleSet
 copied = ruleSet "positions=3\nsizes=3,3,3\nrules=2\ncost=1\nif=x1,x2,x3\nthen=x1,x1,x3\ncost=1\nif=x1,0,x1\nthen=x1,0,x1\n"
 

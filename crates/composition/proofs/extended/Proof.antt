@@ -1,7 +1,7 @@
 -- `composition::extended` meets its contract: by cases on whether the sequence has vectors, and on whether its effect
 -- is unified with the rule's condition.
 -- Assumes nothing.
-use mathlib.Core.Path.{_≡_, refl, sym, ap, _∙_, subst}
+use mathlib.Core.Path.{_≡_, sym, ap, _∙_, subst}
 use mathlib.Core.Bool.{true}
 use mathlib.Core.Option.{Option, some}
 use borrow.Author.Needs.{needs}

@@ -1,7 +1,7 @@
 -- `composition::followed` meets its contract. The invariant: the first i places of the effect, and what the rule's
 -- other entries stand for, are the whole.
 -- Assumes nothing.
-use mathlib.Core.Path.{_≡_, refl, _∙_}
+use mathlib.Core.Path.{_≡_, refl}
 use mathlib.Core.List.{_++_}
 use Prim.Native.Nat.{_≤_, _-_}
 use native.Mathlib.Omega.{arith}

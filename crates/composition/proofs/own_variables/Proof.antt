@@ -62,7 +62,8 @@ loop-again c =
     let within = in-array c in (
       search needs,
       search needs,
-      fill-go _ (l .i) 16 (l .entries) _ (l .inv .2) _ (sym (rw (lt-ltb _ _ (of-position c)))) within (omega (arith, within)),
+      fill-go _ (l .i) 16 (l .entries) _ (l .inv .2) _ (sym (rw (lt-ltb _ _ (of-position c)))) within
+          (omega (arith, within)),
       zeros-behind (l .i) 16 (l .entries) _ (l .inv .3) within,
     )
 
