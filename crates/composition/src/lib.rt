@@ -12,7 +12,7 @@ ghost use mathlib.Core.Path.{_≡_};
 ghost use mathlib.Core.Bool.{true, not, cond};
 ghost use mathlib.Core.Option.{some, none};
 ghost use Prim.Native.Nat.{min, max, _+_, _<_};
-ghost use lib.Dec.{eqb};
+ghost use lib.Dec.{ltb, eqb};
 ghost use Rattle.model_spec.specs.Limits.{placeCount, firstVariable};
 ghost use Rattle.model_spec.specs.States.{isConstant, valuesOf};
 ghost use Rattle.model_spec.specs.Validity.{Valid};
@@ -148,15 +148,22 @@ pub fn extended(sequence: Vectors, rule: Rule) -> Vectors
     followed(met, last)
 }
 
-// The condition of the empty sequence, which is its effect too: each position's variable in its own place, then zeros.
-fn own_variables(positions: u8) -> [u8; PLACE_COUNT]
-    ensures { λ r. ⌜ r ≡ ownVariables positions ⌝ }
+// A position's entry in the empty sequence: its variable, and 0 where it has a single value.
+fn own_entry(size: u8, variable: u8) -> u8
+    ensures { λ r. ⌜ r ≡ cond (ltb 1 size) variable 0 ⌝ }
+{
+    if 1 < size { variable } else { 0 }
+}
+
+// The condition of the empty sequence, which is its effect too: each position's entry in its own place, then zeros.
+fn own_variables(positions: u8, sizes: [u8; PLACE_COUNT]) -> [u8; PLACE_COUNT]
+    ensures { λ r. ⌜ r ≡ ownVariables positions sizes ⌝ }
 {
     let mut entries = [0u8; PLACE_COUNT];
     let count = smaller(positions, MAX_POSITIONS);
     let mut i: u8 = 0;
     while i < count {
-        entries[i as usize] = FIRST_VARIABLE + i;
+        entries[i as usize] = own_entry(sizes[i as usize], FIRST_VARIABLE + i);
         i += 1;
     }
     entries
@@ -168,7 +175,8 @@ pub fn empty(set: RuleSet) -> Vectors
         (r ≡ asVectors (some (emptyLines set)))
         × (Valid set → EmptyMeaning set r) ⌝ }
 {
-    let condition = own_variables(set.positions);
+    let sizes = set.sizes;
+    let condition = own_variables(set.positions, sizes);
     let effect = condition;
     Vectors {
         admitted: true,

@@ -164,11 +164,11 @@ pub size-law : (count : ℕ) → ItemLaw sizeItem numeral sizeFaultless count
 unfolding sizeItem sizeFaultless
 size-law count = record {
   reads =
-      λ before ending text e rest h p. let w = within-read 2 16 ending text e rest p in
-      (within-iff 2 16 e .1 (w .0, w .1 .0), w .1 .1);
+      λ before ending text e rest h p. let w = within-read 1 16 ending text e rest p in
+      (within-iff 1 16 e .1 (w .0, w .1 .0), w .1 .1);
   back =
-      λ before ending e rest h d f. let w = within-iff 2 16 e .0 f in
-      within-back 2 16 ending e rest d (w .0) (w .1) (omega arith);
+      λ before ending e rest h d f. let w = within-iff 1 16 e .0 f in
+      within-back 1 16 ending e rest d (w .0) (w .1) (omega arith);
 }
 
 module _ (positions : ℕ) (sizes : List ℕ) (few : positions ≤ 16)

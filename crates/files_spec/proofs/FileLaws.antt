@@ -62,7 +62,7 @@ module _ (positions : ℕ) (sizes : List ℕ) (some : 1 ≤ positions) (few : po
   condition-read text condition rest p =
       let v = list-line-read (conditionItem positions sizes) entryText
       (conditionFaultless positions sizes) positions condition-items "if=" text condition rest some p in
-      (condition-filled-iff positions sizes few limits condition .1 (v .0), v .1)
+      (condition-filled-iff positions sizes few condition .1 (v .0), v .1)
 
   -- an `if` line of a valid condition is read
   pub condition-back : (condition rest : List ℕ) → conditionValid positions sizes condition ≡ true
@@ -71,7 +71,7 @@ module _ (positions : ℕ) (sizes : List ℕ) (some : 1 ≤ positions) (few : po
   condition-back condition rest valid =
       list-line-back (conditionItem positions sizes) entryText
       (conditionFaultless positions sizes) positions condition-items "if=" condition rest some few
-      (condition-filled-iff positions sizes few limits condition .0 valid)
+      (condition-filled-iff positions sizes few condition .0 valid)
 
   module _ (condition : List ℕ) where
     -- the items of a `then` line
@@ -87,7 +87,7 @@ module _ (positions : ℕ) (sizes : List ℕ) (some : 1 ≤ positions) (few : po
     effect-read text effect rest p =
         let v = list-line-read (effectItem positions sizes condition) entryText
         (effectFaultless positions sizes condition) positions effect-items "then=" text effect rest some p in
-        (effect-filled-iff positions sizes few limits condition effect .1 (v .0), v .1)
+        (effect-filled-iff positions sizes few condition effect .1 (v .0), v .1)
 
     -- a `then` line of a valid effect is read
     effect-back : (effect rest : List ℕ) → effectValid positions sizes condition effect ≡ true
@@ -96,7 +96,7 @@ module _ (positions : ℕ) (sizes : List ℕ) (some : 1 ≤ positions) (few : po
     effect-back effect rest valid =
         list-line-back (effectItem positions sizes condition) entryText
         (effectFaultless positions sizes condition) positions effect-items "then=" effect rest some few
-        (effect-filled-iff positions sizes few limits condition effect .0 valid)
+        (effect-filled-iff positions sizes few condition effect .0 valid)
 
   -- ── Rules ────────────────────────────────────────────────────────────────────────────────────────
 

@@ -17,9 +17,9 @@ use Rattle.model_spec.specs.Validity.{entryLimited, conditionPlaced, conditionV
 use Rattle.model_spec.specs.Validity.{ruleValidAt, rulesValid, EntryValid}
 use Rattle.model_spec.specs.declared.Rule.{Rule}
 use Rattle.model_spec.specs.declared.RuleSet.{RuleSet}
-use Rattle.model_spec.proofs.StateLaws.{width-position, width-beyond}
+use Rattle.model_spec.proofs.StateLaws.{width-beyond}
 use Rattle.model_spec.proofs.ValidityLaws.{condition-entry-iff, effect-entry-iff, condition-iff, effect-iff, sizes-iff}
-use Rattle.model_spec.proofs.ValidityLaws.{blank-iff}
+use Rattle.model_spec.proofs.ValidityLaws.{single-entry-iff, blank-iff}
 use Rattle.files_spec.specs.Faults.{ItemTest, sizeFaultless, conditionFaultless, effectFaultless}
 use Rattle.files_spec.proofs.PaddedLaws.{padded-front, padded-iff}
 
@@ -113,6 +113,7 @@ module _ (positions : ℕ) (sizes : List ℕ) where
       record {
         constant = v .constant;
         position = v .position;
+        several = v .several;
         equalSizes = v .equalSizes;
         itself = λ h. agree h
             ∙ v .itself h;
@@ -158,37 +159,17 @@ module _ (positions : ℕ) (sizes : List ℕ) (few : positions ≤ 16) where
   unfolding sizeFaultless
   sizes-filled-iff =
       Iff·trans (sizes-iff positions sizes) (filled-iff sizeFaultless positions sizes _ few
-      (λ _ i h. let w = within-iff 2 16 (getD sizes i 0) in
+      (λ _ i h. let w = within-iff 1 16 (getD sizes i 0) in
       (λ t. (λ _. w .0 t, λ k. absurd (omega arith)), λ v. w .1 (v .0 h)))
       (λ i h. (λ v. v .1 h, λ z. (λ k. absurd (omega arith), λ _. z))))
 
-module _ (positions : ℕ) (sizes : List ℕ) (few : positions ≤ 16) (limits : sizesValid positions sizes ≡ true) where
-  -- every size is 2 to 16
-  size-limits : (i : ℕ) → i < positions → (2 ≤ getD sizes i 0) × (getD sizes i 0 ≤ 16)
-  size-limits i h = sizes-iff positions sizes .0 limits .1 i (omega arith) .0 h
-
-  -- so none is above 16
-  pub small-sizes : (i : ℕ) → i < positions → getD sizes i 0 ≤ 16
-  small-sizes i h = size-limits i h .1
+  -- no valid size is above 16
+  pub small-sizes : sizesValid positions sizes ≡ true → (i : ℕ) → i < positions → getD sizes i 0 ≤ 16
+  small-sizes limits i h = sizes-iff positions sizes .0 limits .1 i (omega arith) .0 h .1
 
   -- beyond the positions only the constant 0 is valid
   beyond-iff : (condition : List ℕ) (i e : ℕ) → positions ≤ i → EntryValid positions sizes condition i e ↔ (e ≡ 0)
-  beyond-iff condition i e b =
-      let one = width-beyond positions sizes i b in (
-        λ v.
-            ⊎-elim (λ h. omega (arith, v .constant h))
-            (λ h. let at = v .position h in absurd (omega
-            (arith, v .equalSizes h, width-position positions sizes (e - 16) at, size-limits (e - 16) at)))
-            (below? e 16),
-        λ z. record {
-          constant =
-              λ _. omega arith;
-          position = λ h. absurd (omega arith);
-          equalSizes = λ h. absurd (omega arith);
-          itself =
-              λ h. absurd (omega arith);
-        },
-      )
+  beyond-iff condition i e b = single-entry-iff positions sizes condition i e (width-beyond positions sizes i b)
 
   -- a line of a condition fills its places exactly with a valid condition
   pub condition-filled-iff : (condition : List ℕ) → (conditionValid positions sizes condition ≡ true)

@@ -217,7 +217,7 @@ FaultLaw n item fault count =
 -- a size
 pub size-fault : (n count : ℕ) → FaultLaw n sizeItem (SizeFault n) count
 unfolding sizeItem
-size-fault n count before ending text h digit = number-fault n ending digit 2 16 text
+size-fault n count before ending text h digit = number-fault n ending digit 1 16 text
 
 module _ (n positions : ℕ) (sizes : List ℕ) (few : positions ≤ 16)
     (small : (i : ℕ) → i < positions → getD sizes i 0 ≤ 16) where

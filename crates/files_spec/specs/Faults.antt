@@ -76,10 +76,10 @@ pub record ListFault (itemText : ℕ → List ℕ) (faultless : ItemTest) (fault
 
 -- a size
 unfoldable pub sizeFaultless : ItemTest
-sizeFaultless before size = within 2 maxSize size
+sizeFaultless before size = within 1 maxSize size
 
 abbrev pub SizeFault : ℕ → ItemFault
-SizeFault n before ending text = NumberFault n 2 maxSize ending text
+SizeFault n before ending text = NumberFault n 1 maxSize ending text
 
 -- an entry of a condition (document 01: the `if` line)
 unfoldable pub conditionFaultless : ℕ → List ℕ → ItemTest

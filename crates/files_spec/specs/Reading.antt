@@ -92,9 +92,9 @@ entry positions sizes i ending text =
 abbrev pub Item : Type 0
 Item = List ℕ → ℕ → List ℕ → Parsed ℕ
 
--- a size: a number from 2 to 16
+-- a size: a number from 1 to 16
 unfoldable pub sizeItem : Item
-sizeItem before ending text = numberWithin 2 maxSize ending text
+sizeItem before ending text = numberWithin 1 maxSize ending text
 
 -- an entry of an `if` line, judged for its place after those before it
 unfoldable pub conditionItem : ℕ → List ℕ → Item

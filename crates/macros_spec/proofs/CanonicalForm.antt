@@ -13,7 +13,7 @@ pub record Fits (positions : ℕ) (sizes : List ℕ) (n e : ℕ) : Type 0 where
   pub constant : e < 16 → e < n
   pub position : 16 ≤ e → e - 16 < positions
   pub equalSizes : 16 ≤ e → width positions sizes (e - 16) ≡ n
-  pub used : 16 ≤ e → 2 ≤ n
+  pub several : 16 ≤ e → 2 ≤ n
 
 -- every entry of a vector fits; beyond its end it reads 0
 abbrev pub Fitting : ℕ → List ℕ → List ℕ → Type 0

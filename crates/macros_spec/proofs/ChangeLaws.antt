@@ -4,7 +4,6 @@
 use mathlib.Core.Path.{_≡_, sym, ap, _∙_}
 use mathlib.Core.Logic.{⊎-elim, inl, inr, _⊎_, _↔_, _≢_}
 use mathlib.Core.Bool.{Bool, true, false, not, _&&_, false≢true}
-use mathlib.Core.Option.{some}
 use mathlib.Core.List.{List}
 use Prim.Native.Nat.{ℕ, _≤_, _<_}
 use native.Mathlib.Omega.{arith}
@@ -15,11 +14,11 @@ use Rattle.theory_spec.specs.Sequences.{Sequence}
 use Rattle.theory_spec.proofs.ListLaws.{passes?, true-any, any-true, and-split, and-join, not-both}
 use Rattle.theory_spec.proofs.TestLaws.{below?, equal?, eqb-iff, not-iff}
 use Rattle.theory_spec.proofs.SetLaws.{has-none}
-use Rattle.model_spec.specs.States.{State, valueOf, valuesOf, applicable, successor}
+use Rattle.model_spec.specs.States.{State, valueOf, valuesOf, applicable, successor, width}
 use Rattle.model_spec.specs.Rules.{StateOf, statesOf}
 use Rattle.model_spec.specs.Validity.{WellFormed}
 use Rattle.model_spec.specs.declared.RuleSet.{RuleSet}
-use Rattle.model_spec.proofs.StateLaws.{applicable-iff, values-at, width-beyond}
+use Rattle.model_spec.proofs.StateLaws.{applicable-iff, values-at}
 use Rattle.model_spec.proofs.RedundancyLaws.{statesOf-iff}
 use Rattle.macros_spec.specs.Composition.{ownVariables, emptyLines}
 use Rattle.macros_spec.specs.Touched.{touchedBy, untouched, NamedElsewhere, Reads, Writes}
@@ -28,7 +27,7 @@ use Rattle.macros_spec.specs.declared.Macro.{Macro}
 use Rattle.macros_spec.proofs.VectorLaws.{value-at}
 use Rattle.macros_spec.proofs.CanonicalForm.{Fits, Canonical}
 use Rattle.macros_spec.proofs.DistinctLaws.{entries-equal}
-use Rattle.macros_spec.proofs.EmptyLaws.{own-position, own-beyond}
+use Rattle.macros_spec.proofs.EmptyLaws.{own-many, own-single}
 use Rattle.macros_spec.proofs.MeaningLaws.{means-canonical}
 use Rattle.macros_spec.proofs.TouchedLaws.{touched-meaning, touched-unique}
 
@@ -39,8 +38,8 @@ many-valued : (positions : ℕ) (sizes : List ℕ) (n x y : ℕ) → Fits positi
     → 2 ≤ n
 many-valued positions sizes n x y fx fy d =
     ⊎-elim (λ cx. ⊎-elim (λ cy. ⊎-elim (λ (few : n < 2). absurd (d (omega (arith, fx .constant cx, fy .constant cy))))
-    (λ h. h) (below? n 2)) (λ cy. fy .used cy) (below? y 16))
-    (λ cx. fx .used cx) (below? x 16)
+    (λ h. h) (below? n 2)) (λ cy. fy .several cy) (below? y 16))
+    (λ cx. fx .several cx) (below? x 16)
 
 module _ (set : RuleSet) (formed : WellFormed set) (q : Sequence) (m : Macro) (means : Means set q m) (i : ℕ) where
   form : Canonical (set .positions) (set .sizes) (m .condition) (m .effect)
@@ -114,25 +113,26 @@ unfolding emptyLines
 empty-untouched set few =
     touched-unique set macro (touchedBy set (emptyLines set)) untouched (touched-meaning set (emptyLines set) 0)
     (record {
-      reads = λ i h. (λ t. absurd (false≢true (sym (has-none i) ∙ t)), λ r. absurd (not-read i r));
+      reads = λ i h. (λ t. absurd (false≢true (sym (has-none i) ∙ t)), λ r. absurd (not-read i h r));
       writes = λ i h. (λ t. absurd (false≢true (sym (has-none i) ∙ t)), λ w. absurd (w .1 (λ _. getD own i 0)));
       sixteen = (omega arith, omega arith);
     })
   where
     own : List ℕ
-    own = ownVariables (set .positions)
+    own = ownVariables (set .positions) (set .sizes)
 
     macro : Macro
     macro = record { condition = own; effect = own; cost = 0 }
 
     not-named : (i : ℕ) → NamedElsewhere own i → ⊥
     not-named i w =
-        ⊎-elim (λ p. w .2 (omega (arith, own-position (set .positions) few (w .0) p, w .3 .0, w .3 .1)))
-        (λ p. omega (arith, own-beyond (set .positions) few (w .0) p, w .3 .0)) (below? (w .0) (set .positions))
+        let k = w .0 in
+        ⊎-elim (λ p. omega (arith, own-single (set .positions) (set .sizes) few k p, w .3 .0))
+        (λ p. w .2 (omega (arith, w .1, own-many (set .positions) (set .sizes) few k p, w .3 .0, w .3 .1)))
+        (below? (width (set .positions) (set .sizes) k) 2)
 
-    not-read : (i : ℕ) → Reads set macro i → ⊥
-    not-read i r =
-        ⊎-elim (λ p. let e = own-position (set .positions) few i p in
+    not-read : (i : ℕ) → i < 16 → Reads set macro i → ⊥
+    not-read i h r =
+        let e = own-many (set .positions) (set .sizes) few i (r .0) in
         ⊎-elim (λ c. omega (arith, e))
-        (λ o. ⊎-elim (λ a. a .1 (omega (arith, e))) (λ b. ⊎-elim (not-named i) (not-named i) b) o) (r .1))
-        (λ p. omega (arith, r .0, width-beyond (set .positions) (set .sizes) i p)) (below? i (set .positions))
+        (λ o. ⊎-elim (λ a. a .1 (omega (arith, e, h))) (λ b. ⊎-elim (not-named i) (not-named i) b) o) (r .1)

@@ -11,12 +11,12 @@ use lib.ListN.{getD, set, length-set}
 use lib.Seq.{getD-set-same, getD-set-other, ext-getD}
 use Rattle.theory_spec.specs.Sequences.{Sequence}
 use Rattle.theory_spec.proofs.TestLaws.{below?, equal?}
-use Rattle.model_spec.specs.States.{State, valueOf, valuesOf, successor, width}
+use Rattle.model_spec.specs.States.{State, valueOf, valuesOf, successor, width, ManyValued}
 use Rattle.model_spec.specs.Rules.{StateOf, runIn}
 use Rattle.model_spec.specs.Validity.{WellFormed}
 use Rattle.model_spec.specs.declared.RuleSet.{RuleSet}
 use Rattle.model_spec.proofs.StateLaws.{applicable-iff, values-at, values-length, value-constant}
-use Rattle.macros_spec.specs.Touched.{ManyValued, NamedElsewhere, Reads}
+use Rattle.macros_spec.specs.Touched.{NamedElsewhere, Reads}
 use Rattle.macros_spec.specs.Answers.{Means, Depends}
 use Rattle.macros_spec.specs.declared.Macro.{Macro}
 use Rattle.macros_spec.proofs.VectorLaws.{value-at, value-place}
@@ -48,7 +48,7 @@ module _ (rules : RuleSet) (formed : WellFormed rules) (q : Sequence) (m : Macro
   module _ (unread : Reads rules m i → ⊥) (s u : State) (ds : StateOf rules s) (du : StateOf rules u)
       (alike : (k : ℕ) → k ≢ i → getD s k 0 ≡ getD u k 0) where
     -- a place with one value holds 0 in both
-    same-state : (ManyValued rules i → ⊥) → s ≡ u
+    same-state : (ManyValued (rules .positions) (rules .sizes) i → ⊥) → s ≡ u
     same-state one =
         ext-getD 0 s u (ds .0 ∙ sym (du .0))
         (λ k h. ⊎-elim (λ (e : k ≡ i). subst (λ j. getD s j 0 ≡ getD u j 0) (sym e)
@@ -63,7 +63,7 @@ module _ (rules : RuleSet) (formed : WellFormed rules) (q : Sequence) (m : Macro
         ⊎-elim (λ c. value-constant e s c ∙ sym (value-constant e u c))
         (λ v. value-place e s v ∙ alike (e % 16) (other v) ∙ sym (value-place e u v)) (below? e 16)
 
-    module _ (wide : ManyValued rules i) where
+    module _ (wide : ManyValued (rules .positions) (rules .sizes) i) where
       others : (line : List ℕ) → (NamedElsewhere line i → ⊥) → (k : ℕ) → k < 16 → k ≢ i
           → valueOf (getD line k 0) s ≡ valueOf (getD line k 0) u
       others line unnamed k h n = same-value (getD line k 0) (λ v e. unnamed (k, h, n, (v, e)))

@@ -61,7 +61,7 @@ module _ (positions : ℕ) (sizes condition effect : List ℕ) (form : Canonical
       below : (i e : ℕ) → Fits positions sizes (width positions sizes i) e → valueOf e t < width positions sizes i
       below i e f =
           ⊎-elim (λ c. omega (arith, value-constant e t c, f .constant c))
-          (λ c. omega (arith, value-place e t c, small (e % 16), f .used c)) (below? e 16)
+          (λ c. omega (arith, value-place e t c, small (e % 16), f .several c)) (below? e 16)
 
   -- so some state meets the condition
   pub condition-met : (s : State) × IsState positions sizes s × (valuesOf condition s ≡ s)

@@ -1,6 +1,5 @@
--- The empty sequence's vectors: each position's variable in its own place, 0 beyond. In every state they stand for that
--- state,
--- and they are canonical where each position has two values or more.
+-- The empty sequence's vectors: each position's variable in its own place, 0 where there is a single value. In every
+-- state they stand for that state, and they are canonical where each place has a value.
 -- Assumes nothing.
 use mathlib.Core.Path.{_≡_, refl, sym, ap, _∙_}
 use mathlib.Core.Logic.{⊎-elim}
@@ -10,84 +9,91 @@ use Prim.Native.Nat.{ℕ, _+_, _≤_, _<_}
 use native.Mathlib.Omega.{arith}
 use lib.ListN.{length, getD, List·getD-eq-default}
 use lib.Seq.{ext-getD}
-use lib.Dec.{ltb}
 use borrow.Author.Tests.{lt-ltb, le-ltb}
 use Rattle.theory_spec.proofs.TestLaws.{below?}
-use Rattle.model_spec.specs.States.{State, valueOf, valuesOf, width, IsState}
+use Rattle.model_spec.specs.States.{State, valueOf, valuesOf, width, manyValued, ManyValued, IsState}
 use Rattle.model_spec.proofs.StateLaws.{at-places, width-beyond, value-constant, value-variable, values-at}
 use Rattle.model_spec.proofs.StateLaws.{values-length}
 use Rattle.macros_spec.specs.Composition.{ownVariables}
 use Rattle.macros_spec.proofs.CanonicalForm.{Fitting, Canonical}
 
-module _ (positions : ℕ) (few : positions ≤ 16) where
-  own-length : length (ownVariables positions) ≡ 16
+module _ (positions : ℕ) (sizes : List ℕ) (few : positions ≤ 16) where
+  abbrev own : List ℕ
+  own = ownVariables positions sizes
+
+  own-length : length own ≡ 16
   unfolding ownVariables
   own-length = refl
 
-  own-at : (i : ℕ) → i < 16 → getD (ownVariables positions) i 0 ≡ cond (ltb i positions) (16 + i) 0
+  own-at : (i : ℕ) → i < 16 → getD own i 0 ≡ cond (manyValued positions sizes i) (16 + i) 0
   unfolding ownVariables
-  own-at = at-places (λ i. cond (ltb i positions) (16 + i) 0)
+  own-at = at-places (λ i. cond (manyValued positions sizes i) (16 + i) 0)
 
-  pub own-position : (i : ℕ) → i < positions → getD (ownVariables positions) i 0 ≡ 16 + i
-  own-position i h = own-at i (omega arith) ∙ rw (lt-ltb i positions h)
+  -- a place with two values or more is a position's
+  many-position : (i : ℕ) → ManyValued positions sizes i → i < positions
+  many-position i many =
+      ⊎-elim (λ h. h) (λ h. absurd (omega (arith, many, width-beyond positions sizes i h))) (below? i positions)
 
-  pub own-beyond : (i : ℕ) → positions ≤ i → getD (ownVariables positions) i 0 ≡ 0
-  own-beyond i h =
-      ⊎-elim (λ q. own-at i q ∙ rw (le-ltb i positions h))
-      (λ q. List·getD-eq-default (ownVariables positions) 0 {n = i} (omega (arith, own-length))) (below? i 16)
+  pub own-many : (i : ℕ) → ManyValued positions sizes i → getD (ownVariables positions sizes) i 0 ≡ 16 + i
+  own-many i many = own-at i (omega (arith, many-position i many)) ∙ rw (lt-ltb 1 (width positions sizes i) many)
 
-  -- a vector with 0 beyond the positions is read as it is
-  own-kept : (s : List ℕ) → length s ≡ 16 → ((i : ℕ) → positions ≤ i → getD s i 0 ≡ 0)
-      → valuesOf (ownVariables positions) s ≡ s
+  pub own-single : (i : ℕ) → width positions sizes i < 2 → getD (ownVariables positions sizes) i 0 ≡ 0
+  own-single i h =
+      ⊎-elim (λ q. own-at i q ∙ rw (le-ltb 1 (width positions sizes i) (omega arith)))
+      (λ q. List·getD-eq-default own 0 {n = i} (omega (arith, own-length))) (below? i 16)
+
+  -- a vector with 0 wherever there is a single value is read as it is
+  own-kept : (s : List ℕ) → length s ≡ 16 → ((i : ℕ) → width positions sizes i < 2 → getD s i 0 ≡ 0)
+      → valuesOf own s ≡ s
   own-kept s n z =
-      ext-getD 0 (valuesOf (ownVariables positions) s) s (values-length (ownVariables positions) s ∙ own-length ∙ sym n)
+      ext-getD 0 (valuesOf own s) s (values-length own s ∙ own-length ∙ sym n)
       (λ i h.
-      values-at (ownVariables positions) s i
-      ∙ ⊎-elim
-      (λ q. ap (λ e. valueOf e s) (own-position i q) ∙ value-variable (16 + i) s (omega arith) (omega arith)
+      values-at own s i
+      ∙ ⊎-elim (λ q. ap (λ e. valueOf e s) (own-single i q) ∙ value-constant 0 s (omega arith) ∙ sym (z i q))
+      (λ q. let p = many-position i q in
+      ap (λ e. valueOf e s) (own-many i q) ∙ value-variable (16 + i) s (omega arith) (omega arith)
       ∙ ap (λ j. getD s j 0) (omega arith))
-      (λ q. ap (λ e. valueOf e s) (own-beyond i q) ∙ value-constant 0 s (omega arith) ∙ sym (z i q))
-      (below? i positions))
+      (below? (width positions sizes i) 2))
 
-  pub own-state : (sizes : List ℕ) (s : State) → IsState positions sizes s → valuesOf (ownVariables positions) s ≡ s
-  own-state sizes s d =
+  pub own-state : (s : State) → IsState positions sizes s → valuesOf (ownVariables positions sizes) s ≡ s
+  own-state s d =
       own-kept s (d .0)
-      (λ i p. ⊎-elim (λ k. omega (arith, d .1 i k, width-beyond positions sizes i p))
-      (λ k. List·getD-eq-default s 0 {n = i} (omega arith)) (below? i 16))
+      (λ i p. ⊎-elim (λ k. omega (arith, d .1 i k, p)) (λ k. List·getD-eq-default s 0 {n = i} (omega arith))
+      (below? i 16))
 
-  module _ (sizes : List ℕ) (wide : (i : ℕ) → i < positions → 2 ≤ width positions sizes i) where
-    own-fits : Fitting positions sizes (ownVariables positions)
+  module _ (some-value : (i : ℕ) → 1 ≤ width positions sizes i) where
+    own-fits : Fitting positions sizes own
     own-fits i =
         ⊎-elim
         (λ q.
-        rw (own-position i q)
+        rw (own-single i q)
         (record {
-          constant = λ h. absurd (omega arith);
-          position = λ h. omega arith;
-          equalSizes =
-              λ h. ap (width positions sizes) (omega arith);
-          used = λ h. wide i q;
-        }))
-        (λ q.
-        rw (own-beyond i q)
-        (record {
-          constant = λ h. omega (arith, width-beyond positions sizes i q);
+          constant = λ h. some-value i;
           position = λ h. absurd (omega arith);
           equalSizes = λ h. absurd (omega arith);
-          used = λ h. absurd (omega arith);
+          several = λ h. absurd (omega arith);
         }))
-        (below? i positions)
+        (λ q.
+        rw (own-many i q)
+        (record {
+          constant = λ h. absurd (omega arith);
+          position = λ h. omega (arith, many-position i q);
+          equalSizes =
+              λ h. ap (width positions sizes) (omega arith);
+          several = λ h. q;
+        }))
+        (below? (width positions sizes i) 2)
 
-    pub own-canonical : Canonical positions sizes (ownVariables positions) (ownVariables positions)
+    pub own-canonical : Canonical positions sizes (ownVariables positions sizes) (ownVariables positions sizes)
     own-canonical =
-        let kept = own-kept (ownVariables positions) own-length own-beyond in
+        let kept = own-kept own own-length own-single in
         record {
           conditionLength = own-length;
           effectLength = own-length;
           keepsItself = kept;
           notLater =
-              λ i. ⊎-elim (λ q. omega (arith, own-position i q)) (λ q. omega (arith, own-beyond i q))
-              (below? i positions);
+              λ i. ⊎-elim (λ q. omega (arith, own-single i q)) (λ q. omega (arith, own-many i q))
+              (below? (width positions sizes i) 2);
           keepsEffect = kept;
           conditionFits = own-fits;
           effectFits = own-fits;

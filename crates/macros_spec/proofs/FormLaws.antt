@@ -1,4 +1,4 @@
--- The form of a rule's lines, place by place, is the canonical form where each position has two values or more.
+-- The form of a rule's lines, place by place, is the canonical form.
 -- Assumes nothing.
 use mathlib.Core.Path.{_≡_, sym, _∙_}
 use mathlib.Core.Logic.{_↔_, ⊎-elim}
@@ -27,6 +27,7 @@ module _ (positions : ℕ) (sizes condition : List ℕ) (few : positions ≤ 16)
   entries-valid line f k i h = record {
     constant = f i .constant;
     position = f i .position;
+    several = f i .several;
     equalSizes = f i .equalSizes;
     itself = λ b.
         let p = f i .position b in
@@ -42,16 +43,16 @@ module _ (positions : ℕ) (sizes condition : List ℕ) (few : positions ≤ 16)
         (λ i h. values-at line condition i ∙ entry-kept i (getD line i 0) (v i (omega arith)))
 
     -- beyond the sixteen places a line reads 0, the one value there
-    line-fits : ((i : ℕ) → i < positions → 2 ≤ width positions sizes i)
-        → ((i : ℕ) → i < 16 → EntryValid positions sizes condition i (getD line i 0)) → Fitting positions sizes line
-    line-fits wide v i = ⊎-elim inside beyond (below? i 16)
+    line-fits : ((i : ℕ) → i < 16 → EntryValid positions sizes condition i (getD line i 0))
+        → Fitting positions sizes line
+    line-fits v i = ⊎-elim inside beyond (below? i 16)
       where
         inside : i < 16 → Fits positions sizes (width positions sizes i) (getD line i 0)
         inside h = record {
           constant = v i h .constant;
           position = v i h .position;
           equalSizes = v i h .equalSizes;
-          used = λ k. omega (arith, wide (getD line i 0 - 16) (v i h .position k), v i h .equalSizes k);
+          several = v i h .several;
         }
 
         beyond : 16 ≤ i → Fits positions sizes (width positions sizes i) (getD line i 0)
@@ -61,7 +62,7 @@ module _ (positions : ℕ) (sizes condition : List ℕ) (few : positions ≤ 16)
               constant = λ _. omega (arith, width-beyond positions sizes i (omega arith));
               position = λ k. absurd (omega arith);
               equalSizes = λ k. absurd (omega arith);
-              used = λ k. absurd (omega arith);
+              several = λ k. absurd (omega arith);
             }
 
 -- a variable is not later than its place
@@ -72,17 +73,16 @@ not-later condition long h i =
     (λ k. omega (arith, List·getD-eq-default condition 0 {n = i} (omega arith))) (below? i 16)
 
 pub canonical-iff : (positions : ℕ) (sizes condition effect : List ℕ) → positions ≤ 16
-    → (wide : (i : ℕ) → i < positions → 2 ≤ width positions sizes i)
     → LinesValid positions sizes condition effect ↔ Canonical positions sizes condition effect
-canonical-iff positions sizes condition effect few wide = (
+canonical-iff positions sizes condition effect few = (
   λ v. record {
     conditionLength = v .conditionLength;
     effectLength = v .effectLength;
     keepsItself = line-kept positions sizes condition few condition (v .conditionLength) (v .conditionEntries);
     notLater = not-later condition (v .conditionLength) (v .notLater);
     keepsEffect = line-kept positions sizes condition few effect (v .effectLength) (v .effectEntries);
-    conditionFits = line-fits positions sizes condition few condition (v .conditionLength) wide (v .conditionEntries);
-    effectFits = line-fits positions sizes condition few effect (v .effectLength) wide (v .effectEntries);
+    conditionFits = line-fits positions sizes condition few condition (v .conditionLength) (v .conditionEntries);
+    effectFits = line-fits positions sizes condition few effect (v .effectLength) (v .effectEntries);
   },
   λ c. record {
     conditionLength = c .conditionLength;

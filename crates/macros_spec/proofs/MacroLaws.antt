@@ -1,25 +1,25 @@
 -- What the macro call's answer means: it gives a macro exactly if some state admits the sequence, and then the one
 -- macro that means what the sequence's rules do in turn;
 -- it is refused by 7, 11 or 13 exactly where that cause is the first.
--- And what document 01 says of the macro besides: what it costs at most, that its unused places are 0, and which one
--- the empty sequence has.
+-- And what documents 01 and 02 say of the macro besides: what it costs at most, that it has 0 wherever there is a
+-- single value and in its unused places, and which one the empty sequence has.
 -- Assumes nothing.
 use mathlib.Core.Path.{_≡_, refl, sym, ap, _∙_, subst}
-use mathlib.Core.Logic.{_↔_, _≢_, ⊎-elim}
+use mathlib.Core.Logic.{_↔_, _≢_}
 use mathlib.Core.Option.{Option·none-ne-some}
 use mathlib.Core.Bool.{true}
-use mathlib.Core.List.{List, []}
+use mathlib.Core.List.{[]}
 use Prim.Native.Nat.{ℕ, _≤_, _<_}
 use native.Mathlib.Omega.{arith}
 use lib.ListN.{length, getD}
 use Rattle.theory_spec.specs.Sets.{has}
 use Rattle.theory_spec.specs.Sequences.{Sequence, Numbered}
-use Rattle.theory_spec.proofs.TestLaws.{below?}
 use Rattle.model_spec.specs.Rules.{sequenceCost}
 use Rattle.model_spec.specs.Validity.{Valid}
 use Rattle.model_spec.specs.declared.RuleSet.{RuleSet}
+use Rattle.model_spec.specs.States.{width}
 use Rattle.model_spec.proofs.StateLaws.{width-beyond}
-use Rattle.model_spec.proofs.ValidityLaws.{valid-iff, valid-cost}
+use Rattle.model_spec.proofs.ValidityLaws.{single-lines, valid-iff, valid-cost}
 use Rattle.macros_spec.specs.Composition.{ownVariables, emptyLines, composedFrom, composed}
 use Rattle.macros_spec.specs.Touched.{untouched, TouchMeaning}
 use Rattle.macros_spec.specs.Answers.{blankMacro, macroAnswer, Means, Depends, Changes, Denied, Admitted}
@@ -27,8 +27,7 @@ use Rattle.macros_spec.specs.Answers.{Judged, Meaning}
 use Rattle.macros_spec.specs.declared.Macro.{Macro}
 use Rattle.macros_spec.specs.declared.MacroAnswer.{MacroAnswer}
 use Rattle.macros_spec.specs.declared.Touched.{Touched}
-use Rattle.macros_spec.proofs.CanonicalForm.{Fitting}
-use Rattle.macros_spec.proofs.MeaningLaws.{means-canonical, means-admitted, composed-means, denied-iff}
+use Rattle.macros_spec.proofs.MeaningLaws.{means-admitted, composed-means, denied-iff}
 use Rattle.macros_spec.proofs.UniqueLaws.{means-unique}
 use Rattle.macros_spec.proofs.TouchedLaws.{touched-meaning, touched-unique}
 use Rattle.macros_spec.proofs.DependLaws.{depends-iff}
@@ -216,41 +215,39 @@ module _ (set : RuleSet) (moves : Sequence) where
     refused = macro-refused;
   }
 
-module _ (set : RuleSet) (isValid : Valid set) where
-  -- beyond the positions there is the value 0 alone, and no variable
-  zero-beyond : (v : List ℕ) → Fitting (set .positions) (set .sizes) v → (i : ℕ) → set .positions ≤ i → getD v i 0 ≡ 0
-  zero-beyond v fits i h =
-      let one = width-beyond (set .positions) (set .sizes) i h in
-      ⊎-elim (λ c. omega (arith, fits i .constant c)) (λ c. absurd (omega (arith, fits i .used c)))
-      (below? (getD v i 0) 16)
+-- wherever a place has a single value, a sequence's macro has 0 in both vectors
+pub single-values : (set : RuleSet) (q : Sequence) (m : Macro) → Means set q m
+    → (i : ℕ) → width (set .positions) (set .sizes) i ≡ 1
+    → (getD (m .condition) i 0 ≡ 0) × (getD (m .effect) i 0 ≡ 0)
+single-values set q m means =
+    single-lines (set .positions) (set .sizes) (m .condition) (m .effect) (means .form)
 
-  -- the unused places are 0
-  pub unused-places : (q : Sequence) (m : Macro) → Means set q m → (i : ℕ) → set .positions ≤ i
-      → (getD (m .condition) i 0 ≡ 0) × (getD (m .effect) i 0 ≡ 0)
-  unused-places q m means i h =
-      let form = means-canonical set (isValid .formed) q m means in
-      (zero-beyond (m .condition) (form .conditionFits) i h, zero-beyond (m .effect) (form .effectFits) i h)
+-- so the unused places are 0
+pub unused-places : (set : RuleSet) (q : Sequence) (m : Macro) → Means set q m → (i : ℕ) → set .positions ≤ i
+    → (getD (m .condition) i 0 ≡ 0) × (getD (m .effect) i 0 ≡ 0)
+unused-places set q m means i h = single-values set q m means i (width-beyond (set .positions) (set .sizes) i h)
 
-  -- the empty sequence's macro: each variable in its own place, at no cost, and nothing read or written
-  pub macro-empty : macroAnswer set []
-      ≡ record {
-        outcome = 0;
-        result = record {
-          condition = ownVariables (set .positions);
-          effect = ownVariables (set .positions);
-          cost = 0;
-        };
-        touched = untouched;
-      }
-  unfolding composed composedFrom emptyLines sequenceCost
-  macro-empty =
-      answer-given set [] (valid-iff set .1 isValid) (omega arith) refl (emptyLines set) refl
-      ∙ ap (λ (t : Touched). record {
-        outcome = 0;
-        result = record {
-          condition = ownVariables (set .positions);
-          effect = ownVariables (set .positions);
-          cost = 0;
-        };
-        touched = t;
-      }) (empty-untouched set (isValid .formed .positionLimits .1))
+-- the empty sequence's macro: each variable in its own place, 0 where there is a single value, at no cost, and nothing
+-- read or written
+pub macro-empty : (set : RuleSet) → Valid set → macroAnswer set []
+    ≡ record {
+      outcome = 0;
+      result = record {
+        condition = ownVariables (set .positions) (set .sizes);
+        effect = ownVariables (set .positions) (set .sizes);
+        cost = 0;
+      };
+      touched = untouched;
+    }
+unfolding composed composedFrom emptyLines sequenceCost
+macro-empty set isValid =
+    answer-given set [] (valid-iff set .1 isValid) (omega arith) refl (emptyLines set) refl
+    ∙ ap (λ (t : Touched). record {
+      outcome = 0;
+      result = record {
+        condition = ownVariables (set .positions) (set .sizes);
+        effect = ownVariables (set .positions) (set .sizes);
+        cost = 0;
+      };
+      touched = t;
+    }) (empty-untouched set (isValid .formed .positionLimits .1))

@@ -6,17 +6,17 @@ use mathlib.Core.Logic.{_↔_}
 use mathlib.Core.Bool.{true, false, true≢false}
 use mathlib.Core.Option.{Option, some, none, Option·some-injective}
 use mathlib.Core.List.{List, [], _∷_}
-use Prim.Native.Nat.{ℕ, _-_, _≤_, _<_}
+use Prim.Native.Nat.{ℕ, _-_, _≤_}
 use native.Mathlib.Omega.{arith}
 use Rattle.theory_spec.specs.Lists.{isSome}
 use Rattle.theory_spec.specs.Sequences.{Sequence, Numbered}
 use Rattle.theory_spec.proofs.ListLaws.{same-test, of-isSome}
-use Rattle.model_spec.specs.States.{State, valuesOf, width, successor}
+use Rattle.model_spec.specs.States.{State, valuesOf, successor}
 use Rattle.model_spec.specs.Rules.{ruleAt, StateOf, runIn, sequenceCost, admitted}
 use Rattle.model_spec.specs.Validity.{LinesValid, WellFormed}
 use Rattle.model_spec.specs.declared.RuleSet.{RuleSet}
 use Rattle.model_spec.proofs.StateLaws.{applicable-iff}
-use Rattle.model_spec.proofs.ValidityLaws.{valid-width-position}
+use Rattle.model_spec.proofs.ValidityLaws.{valid-width}
 use Rattle.model_spec.proofs.RedundancyLaws.{admitted-iff, not-admitted-iff}
 use Rattle.macros_spec.specs.Composition.{Lines, emptyLines, extended, composedFrom, composed}
 use Rattle.macros_spec.specs.Answers.{macroAt, Means, Denied, Admitted}
@@ -33,14 +33,10 @@ module _ (set : RuleSet) (valid : WellFormed set) where
   abbrev few : set .positions ≤ 16
   few = valid .positionLimits .1
 
-  -- each position has two values or more
-  abbrev wide : (i : ℕ) → i < set .positions → 2 ≤ width (set .positions) (set .sizes) i
-  wide = valid-width-position set valid
-
   -- valid lines are canonical
   pub lines-canonical : (condition effect : List ℕ) → LinesValid (set .positions) (set .sizes) condition effect
       → Canonical (set .positions) (set .sizes) condition effect
-  lines-canonical condition effect v = canonical-iff (set .positions) (set .sizes) condition effect few wide .0 v
+  lines-canonical condition effect v = canonical-iff (set .positions) (set .sizes) condition effect few .0 v
 
   -- the lines of each rule are canonical
   pub rule-canonical : (r : ℕ) → 1 ≤ r → r ≤ set .count
@@ -100,13 +96,14 @@ module _ (set : RuleSet) (valid : WellFormed set) where
         (λ s t. (u : State) × Leads (some (emptyLines set)) s u × (runIn set q u ≡ some t)) (composed set q)
     unfolding composed emptyLines
     composed-describes =
-        composedFrom-describes q h (some (emptyLines set)) (own-canonical (set .positions) few (set .sizes) wide)
+        composedFrom-describes q h (some (emptyLines set))
+        (own-canonical (set .positions) (set .sizes) few (λ i. valid-width set valid i .0))
 
     -- the sequence's vectors lead from a state where its rules lead
     leads-iff : (s t : State) → StateOf set s → Leads (composed set q) s t ↔ (runIn set q s ≡ some t)
     unfolding emptyLines
     leads-iff s t d =
-        let own = own-state (set .positions) few (set .sizes) s d in (
+        let own = own-state (set .positions) (set .sizes) few s d in (
           λ l. let w = composed-describes .leads s t .0 l in ap (runIn set q) (sym own ∙ w .1 .1)
               ∙ w .2,
           λ e. composed-describes .leads s t .1 (s, (own, own), e),
@@ -123,7 +120,7 @@ module _ (set : RuleSet) (valid : WellFormed set) where
       pub composed-means : Means set q (macroAt (sequenceCost set q) (some m))
       unfolding successor
       composed-means = record {
-        form = canonical-iff (set .positions) (set .sizes) (m .condition) (m .effect) few wide .1 composed-canonical;
+        form = canonical-iff (set .positions) (set .sizes) (m .condition) (m .effect) few .1 composed-canonical;
         runsWhere = λ s d. (
           λ a. (
             valuesOf (m .effect) s,

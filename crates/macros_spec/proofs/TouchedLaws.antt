@@ -3,23 +3,23 @@
 -- Assumes nothing.
 use mathlib.Core.Path.{_≡_, refl, sym, ap, _∙_}
 use mathlib.Core.Logic.{_⊎_, inl, inr, ⊎-elim, _↔_, _≢_}
-use mathlib.Core.Bool.{Bool, true, not, _&&_, _||_}
+use mathlib.Core.Bool.{Bool, true, false, not, _&&_, _||_}
 use mathlib.Core.Option.{Option, some, none}
 use mathlib.Core.List.{List}
 use Prim.Native.Nat.{ℕ, _%_, _≤_, _<_}
 use native.Mathlib.Omega.{arith}
 use lib.Dec.{ltb, eqb}
 use lib.ListN.{getD}
-use borrow.Author.Tests.{ltb-true, lt-ltb}
+use borrow.Author.Tests.{lt-ltb}
 use Rattle.theory_spec.specs.Sets.{has, setOf}
-use Rattle.theory_spec.proofs.ListLaws.{passes?, not-both, or-split, or-left, or-right, same-test}
+use Rattle.theory_spec.proofs.ListLaws.{passes?, not-both, never-true, or-split, or-left, or-right, same-test}
 use Rattle.theory_spec.proofs.TestLaws.{below?, ltb-iff, eqb-iff, not-iff, and-iff, any-below-iff}
 use Rattle.theory_spec.proofs.SetLaws.{setOf-below, has-setOf, set-of, sets-equal}
-use Rattle.model_spec.specs.States.{isConstant, width}
+use Rattle.model_spec.specs.States.{isConstant, width, manyValued, ManyValued}
 use Rattle.model_spec.specs.declared.RuleSet.{RuleSet}
 use Rattle.macros_spec.specs.Composition.{Lines}
-use Rattle.macros_spec.specs.Touched.{names, namedElsewhere, readAt, writtenAt, manyValued, touchedBy}
-use Rattle.macros_spec.specs.Touched.{ManyValued, Constant, Names, NamesAnother, NamedElsewhere, Reads}
+use Rattle.macros_spec.specs.Touched.{names, namedElsewhere, readAt, writtenAt, touchedBy}
+use Rattle.macros_spec.specs.Touched.{Constant, Names, NamesAnother, NamedElsewhere, Reads}
 use Rattle.macros_spec.specs.Touched.{touchedOf, TouchMeaning}
 use Rattle.macros_spec.specs.how.Touching.{widePositions, touchedWithin}
 use Rattle.macros_spec.specs.declared.Macro.{Macro}
@@ -79,11 +79,12 @@ module _ (m : Lines) (i : ℕ) where
       (eqb-iff (getD (m .condition) i 0) (getD (m .effect) i 0)) in
       (λ e p. w .0 e (sym p), λ h. w .1 (λ p. h (sym p)))
 
-many-iff : (set : RuleSet) (i : ℕ) → (manyValued set i ≡ true) ↔ ManyValued set i
-unfolding manyValued
-many-iff set i =
-    let n = width (set .positions) (set .sizes) i in
-    (λ e. omega (arith, ltb-true 1 n e), λ (h : 2 ≤ n). lt-ltb 1 n (omega arith))
+-- position i + 1 of a set has two values or more
+abbrev many : RuleSet → ℕ → Bool
+many set = manyValued (set .positions) (set .sizes)
+
+many-iff : (set : RuleSet) (i : ℕ) → (many set i ≡ true) ↔ ManyValued (set .positions) (set .sizes) i
+many-iff set i = ltb-iff 1 (width (set .positions) (set .sizes) i)
 
 -- ── The two sets ─────────────────────────────────────────────────────────────────────────────────
 
@@ -98,19 +99,19 @@ pub touched-meaning : (set : RuleSet) (m : Lines) (cost : ℕ)
     → TouchMeaning set (record { condition = m .condition; effect = m .effect; cost = cost }) (touchedBy set m)
 unfolding touchedBy
 touched-meaning set m cost = record {
-  reads = λ i h. member-iff (λ k. manyValued set k && readAt m k) i h (reads-iff i);
-  writes = λ i h. member-iff (λ k. manyValued set k && writtenAt m k) i h
-      (and-iff (manyValued set i) (writtenAt m i) (many-iff set i) (written-iff m i));
+  reads = λ i h. member-iff (λ k. many set k && readAt m k) i h (reads-iff i);
+  writes = λ i h. member-iff (λ k. many set k && writtenAt m k) i h
+      (and-iff (many set i) (writtenAt m i) (many-iff set i) (written-iff m i));
   sixteen = (
-    setOf-below (λ k. manyValued set k && readAt m k) 16,
-    setOf-below (λ k. manyValued set k && writtenAt m k) 16,
+    setOf-below (λ k. many set k && readAt m k) 16,
+    setOf-below (λ k. many set k && writtenAt m k) 16,
   );
 }
   where
-    reads-iff : (i : ℕ) → ((manyValued set i && readAt m i) ≡ true)
+    reads-iff : (i : ℕ) → ((many set i && readAt m i) ≡ true)
         ↔ Reads set (record { condition = m .condition; effect = m .effect; cost = cost }) i
     reads-iff i =
-        let w = and-iff (manyValued set i) (readAt m i) (many-iff set i) (read-iff m i) in (
+        let w = and-iff (many set i) (readAt m i) (many-iff set i) (read-iff m i) in (
           λ e. let v = w .0 e in (v .0, ⊎-elim (λ o. ⊎-elim inl (λ a. inr (inl a)) o) (λ o. inr (inr o)) (v .1)),
           λ v. w .1 (v .0, ⊎-elim (λ c. inl (inl c)) (λ o. ⊎-elim (λ a. inl (inr a)) inr o) (v .1)),
         )
@@ -122,6 +123,14 @@ reads? set m i h =
     let tells = touched-meaning set lines (m .cost) .reads i h in
     ⊎-elim (λ e. inl (tells .0 e)) (λ e. inr (λ r. not-both (tells .1 r) e))
     (passes? (has (touchedBy set lines .reads) i))
+
+-- a position with a single value is neither read nor written
+pub single-untouched : (set : RuleSet) (m : Macro) (t : Touched) → TouchMeaning set m t → (i : ℕ) → i < 16
+    → width (set .positions) (set .sizes) i ≡ 1 → (has (t .reads) i ≡ false) × (has (t .writes) i ≡ false)
+single-untouched set m t v i h one = (
+  never-true (has (t .reads) i) (λ e. omega (arith, v .reads i h .0 e .0, one)),
+  never-true (has (t .writes) i) (λ e. omega (arith, v .writes i h .0 e .0, one)),
+)
 
 -- two sets that tell the same are the same
 pub touched-unique : (set : RuleSet) (m : Macro) (t u : Touched) → TouchMeaning set m t → TouchMeaning set m u → t ≡ u
@@ -148,8 +157,8 @@ pub touched-within : (set : RuleSet) (o : Option Lines) → touchedWithin (wideP
 unfolding touchedWithin widePositions touchedBy
 touched-within set none = refl
 touched-within set (some m) =
-    let wide : (i : ℕ) → i < 16 → has (setOf (manyValued set) 16) i ≡ manyValued set i =
-    λ i h. has-setOf (manyValued set) 16 i ∙ ap (λ b. b && manyValued set i) (lt-ltb i 16 h) in
-    let reads = same-set _ (λ i. manyValued set i && readAt m i) (λ i h. ap (λ b. b && readAt m i) (wide i h)) in
-    let writes = same-set _ (λ i. manyValued set i && writtenAt m i) (λ i h. ap (λ b. b && writtenAt m i) (wide i h)) in
+    let wide : (i : ℕ) → i < 16 → has (setOf (many set) 16) i ≡ many set i =
+    λ i h. has-setOf (many set) 16 i ∙ ap (λ b. b && many set i) (lt-ltb i 16 h) in
+    let reads = same-set _ (λ i. many set i && readAt m i) (λ i h. ap (λ b. b && readAt m i) (wide i h)) in
+    let writes = same-set _ (λ i. many set i && writtenAt m i) (λ i h. ap (λ b. b && writtenAt m i) (wide i h)) in
     λ j. record { reads = reads j; writes = writes j }

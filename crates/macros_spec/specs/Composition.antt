@@ -5,11 +5,11 @@ use mathlib.Core.Bool.{Bool, true, false, not, cond, _&&_}
 use mathlib.Core.Option.{Option, some, none}
 use mathlib.Core.List.{List, [], _∷_, map}
 use Prim.Native.Nat.{ℕ, suc, _+_, min, max}
-use lib.Dec.{ltb, eqb}
+use lib.Dec.{eqb}
 use lib.ListN.{getD, replicate}
 use Rattle.theory_spec.specs.Sequences.{Sequence}
 use Rattle.model_spec.specs.Limits.{placeCount, firstVariable}
-use Rattle.model_spec.specs.States.{places, isConstant, valueOf, valuesOf}
+use Rattle.model_spec.specs.States.{places, isConstant, valueOf, valuesOf, manyValued}
 use Rattle.model_spec.specs.Rules.{ruleAt}
 use Rattle.model_spec.specs.declared.Rule.{Rule}
 use Rattle.model_spec.specs.declared.RuleSet.{RuleSet}
@@ -20,13 +20,17 @@ pub record Lines : Type 0 where
   pub condition : List ℕ
   pub effect : List ℕ
 
--- each position's variable in its own place, 0 beyond the positions
-unfoldable pub ownVariables : ℕ → List ℕ
-ownVariables positions = map (λ i. cond (ltb i positions) (firstVariable + i) 0) places
+-- each position's variable in its own place; 0 at a position with a single value (document 02), and beyond the
+-- positions
+unfoldable pub ownVariables : ℕ → List ℕ → List ℕ
+ownVariables positions sizes = map (λ i. cond (manyValued positions sizes i) (firstVariable + i) 0) places
 
 -- the empty sequence's vectors
 unfoldable pub emptyLines : RuleSet → Lines
-emptyLines set = record { condition = ownVariables (set .positions); effect = ownVariables (set .positions) }
+emptyLines set = record {
+  condition = ownVariables (set .positions) (set .sizes);
+  effect = ownVariables (set .positions) (set .sizes);
+}
 
 -- `to` in the place of every `from`
 unfoldable pub replaced : ℕ → ℕ → List ℕ → List ℕ

@@ -6,12 +6,12 @@ use mathlib.Core.Bool.{Bool, true, not, _&&_, _||_}
 use mathlib.Core.Option.{Option, some, none}
 use mathlib.Core.List.{List}
 use Prim.Native.Nat.{ℕ, _%_, _≤_, _<_}
-use lib.Dec.{ltb, eqb}
+use lib.Dec.{eqb}
 use lib.ListN.{getD}
 use Rattle.theory_spec.specs.Lists.{any}
 use Rattle.theory_spec.specs.Sets.{has, setOf}
 use Rattle.model_spec.specs.Limits.{placeCount, firstVariable}
-use Rattle.model_spec.specs.States.{places, isConstant, width}
+use Rattle.model_spec.specs.States.{places, isConstant, manyValued, ManyValued}
 use Rattle.model_spec.specs.declared.RuleSet.{RuleSet}
 use Rattle.macros_spec.specs.Composition.{Lines}
 use Rattle.macros_spec.specs.declared.Macro.{Macro}
@@ -36,15 +36,11 @@ readAt m i =
 unfoldable pub writtenAt : Lines → ℕ → Bool
 writtenAt m i = not (eqb (getD (m .condition) i 0) (getD (m .effect) i 0))
 
--- it has two values or more; no place beyond the positions has
-unfoldable pub manyValued : RuleSet → ℕ → Bool
-manyValued set i = ltb 1 (width (set .positions) (set .sizes) i)
-
--- both sets, the lowest digit for position 1
+-- both sets, of the positions with two values or more; the lowest digit for position 1
 unfoldable pub touchedBy : RuleSet → Lines → Touched
 touchedBy set m = record {
-  reads = setOf (λ i. manyValued set i && readAt m i) placeCount;
-  writes = setOf (λ i. manyValued set i && writtenAt m i) placeCount;
+  reads = setOf (λ i. manyValued (set .positions) (set .sizes) i && readAt m i) placeCount;
+  writes = setOf (λ i. manyValued (set .positions) (set .sizes) i && writtenAt m i) placeCount;
 }
 
 -- both empty
@@ -57,10 +53,6 @@ touchedOf set none = untouched
 touchedOf set (some m) = touchedBy set m
 
 -- ── As statements, in document 02's words ────────────────────────────────────────────────────────
-
--- position i + 1 has two values or more
-abbrev pub ManyValued : RuleSet → ℕ → Type 0
-ManyValued set i = 2 ≤ width (set .positions) (set .sizes) i
 
 -- an entry is a constant
 abbrev pub Constant : ℕ → Type 0
@@ -82,7 +74,7 @@ NamedElsewhere line i = (k : ℕ) × (k < placeCount) × (k ≢ i) × Names (get
 -- `then` entry names"
 abbrev pub Reads : RuleSet → Macro → ℕ → Type 0
 Reads set m i =
-    ManyValued set i
+    ManyValued (set .positions) (set .sizes) i
     × (Constant (getD (m .condition) i 0)
     ⊎ (NamesAnother (getD (m .condition) i 0) i
     ⊎ (NamedElsewhere (m .condition) i
@@ -90,7 +82,7 @@ Reads set m i =
 
 -- document 02: "positions whose `then` entry differs from their `if` entry"
 abbrev pub Writes : RuleSet → Macro → ℕ → Type 0
-Writes set m i = ManyValued set i × (getD (m .effect) i 0 ≢ getD (m .condition) i 0)
+Writes set m i = ManyValued (set .positions) (set .sizes) i × (getD (m .effect) i 0 ≢ getD (m .condition) i 0)
 
 -- what two sets tell of a macro: for each position whether it is read and whether it is written; and they have no
 -- seventeenth digit

@@ -1,8 +1,8 @@
--- Laws of validity: the test passes exactly if the set is valid, part by part; and what a valid set gives: widths, a
--- state, steps that keep to states, and costs.
+-- Laws of validity: the test passes exactly if the set is valid, part by part; what may stand where there is a single
+-- value; and what a valid set gives: widths, a state, steps that keep to states, and costs.
 -- Assumes nothing.
 use mathlib.Core.Path.{_≡_, refl, sym, ap, _∙_, subst}
-use mathlib.Core.Logic.{_↔_, ⊎-elim}
+use mathlib.Core.Logic.{_⊎_, _↔_, ⊎-elim}
 use mathlib.Core.Bool.{Bool, true, false, _&&_, false≢true}
 use mathlib.Core.Option.{Option, some, Option·some-injective, Option·none-ne-some}
 use mathlib.Core.List.{List, [], _∷_}
@@ -12,9 +12,10 @@ use lib.ListN.{length, getD, replicate, getD-replicate, List·getD-eq-default}
 use Rattle.theory_spec.specs.Lists.{onlyIf}
 use Rattle.theory_spec.specs.Sequences.{Sequence, Numbered}
 use Rattle.theory_spec.specs.how.Pruning.{Closed}
+use Rattle.theory_spec.proofs.ListLaws.{never-true}
 use Rattle.theory_spec.proofs.TestLaws.{below?, leb-iff, ltb-iff, eqb-iff, same-iff, not-iff, and-iff, within-iff}
 use Rattle.theory_spec.proofs.TestLaws.{cond-iff, or-iff, every-below-iff, any-below-iff}
-use Rattle.model_spec.specs.States.{State, valueOf, applicable, successor, width, IsState}
+use Rattle.model_spec.specs.States.{State, valueOf, applicable, successor, width, ManyValued, IsState}
 use Rattle.model_spec.specs.Rules.{noRule, blankRule, emptySet, ruleAt, stepOf, ruleCost, StateOf, sequenceCost}
 use Rattle.model_spec.specs.Validity.{entryLimited, conditionPlaced, effectPlaced, conditionValid, effectValid}
 use Rattle.model_spec.specs.Validity.{sizeValid, sizesValid, ruleValid, ruleBlank, ruleValidAt, rulesValid}
@@ -33,48 +34,67 @@ module _ (positions : ℕ) (sizes : List ℕ) where
   unfolding entryLimited
   limited-iff i e = cond-iff e 16 _ _ (ltb-iff e (width positions sizes i)) (ltb-iff (e - 16) positions)
 
+  -- a variable is in place in an effect
+  effect-placed-iff : (condition : List ℕ) (i e : ℕ) → (effectPlaced positions sizes condition i e ≡ true)
+      ↔ (16 ≤ e → ManyValued positions sizes i
+      × ((width positions sizes (e - 16) ≡ width positions sizes i) × (getD condition (e - 16) 0 ≡ e)))
+  unfolding effectPlaced
+  effect-placed-iff condition i e =
+      or-iff e 16 _ (and-iff _ _ (ltb-iff _ _)
+      (and-iff _ _ (eqb-iff (width positions sizes (e - 16)) (width positions sizes i))
+      (eqb-iff (getD condition (e - 16) 0) e)))
+
+  -- and in a condition
+  pub condition-placed-iff : (condition : List ℕ) (i e : ℕ) → (conditionPlaced positions sizes condition i e ≡ true)
+      ↔ (16 ≤ e → ManyValued positions sizes i
+      × ((width positions sizes (e - 16) ≡ width positions sizes i)
+      × ((e - 16 ≤ i) × (getD condition (e - 16) 0 ≡ e))))
+  unfolding conditionPlaced
+  condition-placed-iff condition i e =
+      or-iff e 16 _ (and-iff _ _ (ltb-iff _ _)
+      (and-iff _ _ (eqb-iff (width positions sizes (e - 16)) (width positions sizes i))
+      (and-iff _ _ (leb-iff (e - 16) i) (eqb-iff (getD condition (e - 16) 0) e))))
+
   -- an entry of an effect
   pub effect-entry-iff : (condition : List ℕ) (i e : ℕ)
       → ((entryLimited positions sizes i e && effectPlaced positions sizes condition i e) ≡ true)
       ↔ EntryValid positions sizes condition i e
-  unfolding effectPlaced
   effect-entry-iff condition i e =
-      let tests = and-iff _ _ (limited-iff i e)
-      (or-iff e 16 _ (and-iff _ _ (eqb-iff (width positions sizes (e - 16)) (width positions sizes i))
-      (eqb-iff (getD condition (e - 16) 0) e))) in (
+      let tests = and-iff _ _ (limited-iff i e) (effect-placed-iff condition i e) in (
         λ t. let w =
             tests .0 t in record {
               constant = w .0 .0;
               position = w .0 .1;
-              equalSizes = λ h. w .1 h .0;
+              several = λ h. w .1 h .0;
+              equalSizes = λ h. w .1 h .1 .0;
               itself =
-                  λ h. w .1 h .1;
+                  λ h. w .1 h .1 .1;
             },
-        λ v. tests .1 ((v .constant, v .position), λ h. (v .equalSizes h, v .itself h)),
+        λ v. tests .1 ((v .constant, v .position), λ h. (v .several h, (v .equalSizes h, v .itself h))),
       )
 
   -- an entry of a condition
   pub condition-entry-iff : (condition : List ℕ) (i e : ℕ)
       → ((entryLimited positions sizes i e && conditionPlaced positions sizes condition i e) ≡ true)
       ↔ (EntryValid positions sizes condition i e × (16 ≤ e → e - 16 ≤ i))
-  unfolding conditionPlaced
   condition-entry-iff condition i e =
-      let tests =
-      and-iff _ _ (limited-iff i e)
-      (or-iff e 16 _ (and-iff _ _ (eqb-iff (width positions sizes (e - 16)) (width positions sizes i))
-      (and-iff _ _ (leb-iff (e - 16) i) (eqb-iff (getD condition (e - 16) 0) e)))) in (
+      let tests = and-iff _ _ (limited-iff i e) (condition-placed-iff condition i e) in (
         λ t. let w =
             tests .0 t in (
               record {
                 constant = w .0 .0;
                 position = w .0 .1;
-                equalSizes = λ h. w .1 h .0;
+                several = λ h. w .1 h .0;
+                equalSizes = λ h. w .1 h .1 .0;
                 itself =
-                    λ h. w .1 h .1 .1;
+                    λ h. w .1 h .1 .1 .1;
               },
-              λ h. w .1 h .1 .0,
+              λ h. w .1 h .1 .1 .0,
             ),
-        λ v. tests .1 ((v .0 .constant, v .0 .position), λ h. (v .0 .equalSizes h, (v .1 h, v .0 .itself h))),
+        λ v. tests .1 (
+          (v .0 .constant, v .0 .position),
+          λ h. (v .0 .several h, (v .0 .equalSizes h, (v .1 h, v .0 .itself h))),
+        ),
       )
 
   -- every entry of a condition
@@ -116,15 +136,57 @@ module _ (positions : ℕ) (sizes : List ℕ) where
         ),
       )
 
+  -- ── Places with a single value ───────────────────────────────────────────────────────────────────
+
+  -- a variable that stands there, or that names one, is out of place
+  pub single-misplaced : (condition : List ℕ) (i e : ℕ) → 16 ≤ e
+      → (width positions sizes i ≡ 1) ⊎ (width positions sizes (e - 16) ≡ 1)
+      → (conditionPlaced positions sizes condition i e ≡ false) × (effectPlaced positions sizes condition i e ≡ false)
+  single-misplaced condition i e variable one = (
+    never-true _ (λ t. let w = condition-placed-iff condition i e .0 t variable in single (w .0) (w .1 .0)),
+    never-true _ (λ t. let w = effect-placed-iff condition i e .0 t variable in single (w .0) (w .1 .0)),
+  )
+    where
+      single : ManyValued positions sizes i → width positions sizes (e - 16) ≡ width positions sizes i → ⊥
+      single many equal = ⊎-elim (λ h. omega (arith, many, h)) (λ h. omega (arith, many, equal, h)) one
+
+  -- the constant 0 is the one valid entry there
+  pub single-entry-iff : (condition : List ℕ) (i e : ℕ) → width positions sizes i ≡ 1
+      → EntryValid positions sizes condition i e ↔ (e ≡ 0)
+  single-entry-iff condition i e one = (
+    λ v. ⊎-elim (λ c. omega (arith, v .constant c, one)) (λ h. absurd (omega (arith, v .several h, one))) (below? e 16),
+    λ z. record {
+      constant = λ _. omega (arith, z, one);
+      position = λ h. absurd (omega (arith, z, h));
+      several = λ h. absurd (omega (arith, z, h));
+      equalSizes = λ h. absurd (omega (arith, z, h));
+      itself = λ h. absurd (omega (arith, z, h));
+    },
+  )
+
+  -- so both lines of a rule, and both vectors of a macro, hold 0 there
+  pub single-lines : (condition effect : List ℕ) → LinesValid positions sizes condition effect
+      → (i : ℕ) → width positions sizes i ≡ 1 → (getD condition i 0 ≡ 0) × (getD effect i 0 ≡ 0)
+  single-lines condition effect v i one = (
+    zero condition (v .conditionLength) (v .conditionEntries),
+    zero effect (v .effectLength) (v .effectEntries),
+  )
+    where
+      zero : (line : List ℕ) → length line ≡ 16
+          → ((k : ℕ) → k < 16 → EntryValid positions sizes condition k (getD line k 0)) → getD line i 0 ≡ 0
+      zero line long entries =
+          ⊎-elim (λ h. single-entry-iff condition i (getD line i 0) one .0 (entries i h))
+          (λ h. List·getD-eq-default line 0 {n = i} (omega (arith, long, h))) (below? i 16)
+
   -- ── Sizes and rules ──────────────────────────────────────────────────────────────────────────────
 
   pub sizes-iff : (sizesValid positions sizes ≡ true)
-      ↔ ((length sizes ≡ 16) × ((i : ℕ) → i < 16 → (i < positions → (2 ≤ getD sizes i 0) × (getD sizes i 0 ≤ 16))
+      ↔ ((length sizes ≡ 16) × ((i : ℕ) → i < 16 → (i < positions → (1 ≤ getD sizes i 0) × (getD sizes i 0 ≤ 16))
       × (positions ≤ i → getD sizes i 0 ≡ 0)))
   unfolding sizesValid sizeValid
   sizes-iff =
       and-iff _ _ (eqb-iff _ _) (every-below-iff _ _
-      (λ i. cond-iff i positions _ _ (within-iff 2 16 (getD sizes i 0)) (eqb-iff (getD sizes i 0) 0)) 16)
+      (λ i. cond-iff i positions _ _ (within-iff 1 16 (getD sizes i 0)) (eqb-iff (getD sizes i 0) 0)) 16)
 
   rule-iff : (rule : Rule) → (ruleValid positions sizes rule ≡ true)
       ↔ ((rule .cost ≤ 255) × LinesValid positions sizes (rule .condition) (rule .effect))
@@ -237,11 +299,6 @@ pub valid-width : (set : RuleSet) → WellFormed set → (i : ℕ) → (1 ≤ wi
 valid-width set v i =
     ⊎-elim (λ h. omega (arith, v .sizeLimits i h, width-position (set .positions) (set .sizes) i h))
     (λ h. omega (arith, width-beyond (set .positions) (set .sizes) i h)) (below? i (set .positions))
-
--- a position has two or more
-pub valid-width-position : (set : RuleSet) → WellFormed set → (i : ℕ) → i < set .positions
-    → 2 ≤ width (set .positions) (set .sizes) i
-valid-width-position set v i h = omega (arith, v .sizeLimits i h, width-position (set .positions) (set .sizes) i h)
 
 pub valid-state : (set : RuleSet) → WellFormed set → StateOf set (replicate 16 0)
 valid-state set v = (refl, λ i h. omega (arith, valid-width set v i, getD-replicate {A = ℕ} 16 i 0 0 h))

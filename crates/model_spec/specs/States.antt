@@ -4,7 +4,7 @@
 use mathlib.Core.Path.{_≡_}
 use mathlib.Core.Bool.{Bool, cond}
 use mathlib.Core.List.{List, [], _∷_, map}
-use Prim.Native.Nat.{ℕ, _<_, _%_}
+use Prim.Native.Nat.{ℕ, _≤_, _<_, _%_}
 use lib.Dec.{ltb}
 use lib.ListN.{length, getD}
 use Rattle.theory_spec.specs.Lists.{flat, numbersFrom, same}
@@ -41,6 +41,15 @@ successor effect s = valuesOf effect s
 -- how many values a place has: the size at a position's place, and 1, the value 0 alone, beyond the positions
 unfoldable pub width : ℕ → List ℕ → ℕ → ℕ
 width positions sizes i = cond (ltb i positions) (getD sizes i 0) 1
+
+-- a place has two values or more. A position of size 1 (document 02: a bay with a single value) and a place beyond the
+-- positions have the value 0 alone
+abbrev pub manyValued : ℕ → List ℕ → ℕ → Bool
+manyValued positions sizes i = ltb 1 (width positions sizes i)
+
+-- the same as a statement
+abbrev pub ManyValued : ℕ → List ℕ → ℕ → Type 0
+ManyValued positions sizes i = 2 ≤ width positions sizes i
 
 -- a state of the sizes: sixteen values, each below its place's width
 abbrev pub IsState : ℕ → List ℕ → State → Type 0

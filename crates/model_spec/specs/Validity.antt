@@ -8,7 +8,7 @@ use lib.Dec.{leb, ltb, eqb}
 use lib.ListN.{length, getD, replicate}
 use Rattle.theory_spec.specs.Lists.{any, every, numbersFrom, within, same}
 use Rattle.model_spec.specs.Limits.{maxPositions, placeCount, maxSize, maxRules, maxRuleCost, firstVariable}
-use Rattle.model_spec.specs.States.{places, isConstant, width}
+use Rattle.model_spec.specs.States.{places, isConstant, width, manyValued, ManyValued}
 use Rattle.model_spec.specs.Rules.{noRule, blankRule}
 use Rattle.model_spec.specs.declared.Rule.{Rule}
 use Rattle.model_spec.specs.declared.RuleSet.{RuleSet}
@@ -24,19 +24,23 @@ unfoldable pub entryLimited : ℕ → List ℕ → ℕ → ℕ → Bool
 entryLimited positions sizes i e =
     cond (isConstant e) (ltb e (width positions sizes i)) (ltb (variablePlace e) positions)
 
--- a variable `xj` at place i of a condition is in place: equal sizes, j at most i, and `xj` itself at j
+-- a variable `xj` at place i of a condition is in place: two values or more there (document 02, request 2026-05), equal
+-- sizes, j at most i, and `xj` itself at j
 unfoldable pub conditionPlaced : ℕ → List ℕ → List ℕ → ℕ → ℕ → Bool
 conditionPlaced positions sizes condition i e =
     isConstant e
-    || (eqb (width positions sizes (variablePlace e)) (width positions sizes i)
-    && (leb (variablePlace e) i && eqb (getD condition (variablePlace e) 0) e))
+    || (manyValued positions sizes i
+    && (eqb (width positions sizes (variablePlace e)) (width positions sizes i)
+    && (leb (variablePlace e) i && eqb (getD condition (variablePlace e) 0) e)))
 
--- a variable `xj` at place i of an effect is in place: equal sizes, and `xj` at j of the condition
+-- a variable `xj` at place i of an effect is in place: two values or more there, equal sizes, and `xj` at j of the
+-- condition
 unfoldable pub effectPlaced : ℕ → List ℕ → List ℕ → ℕ → ℕ → Bool
 effectPlaced positions sizes condition i e =
     isConstant e
-    || (eqb (width positions sizes (variablePlace e)) (width positions sizes i)
-    && eqb (getD condition (variablePlace e) 0) e)
+    || (manyValued positions sizes i
+    && (eqb (width positions sizes (variablePlace e)) (width positions sizes i)
+    && eqb (getD condition (variablePlace e) 0) e))
 
 -- ── The parts of a set ───────────────────────────────────────────────────────────────────────────
 
@@ -56,9 +60,9 @@ effectValid positions sizes condition effect =
     entryLimited positions sizes i (getD effect i 0)
     && effectPlaced positions sizes condition i (getD effect i 0)) places
 
--- the size at place i: 2 to 16 for a position, 0 beyond
+-- the size at place i: 1 to 16 for a position, 0 beyond
 unfoldable pub sizeValid : ℕ → List ℕ → ℕ → Bool
-sizeValid positions sizes i = cond (ltb i positions) (within 2 maxSize (getD sizes i 0)) (eqb (getD sizes i 0) 0)
+sizeValid positions sizes i = cond (ltb i positions) (within 1 maxSize (getD sizes i 0)) (eqb (getD sizes i 0) 0)
 
 -- every size
 unfoldable pub sizesValid : ℕ → List ℕ → Bool
@@ -118,10 +122,12 @@ valid set = wellFormed set && not (hasDuplicates (set .rules) (set .count))
 
 -- ── The same as statements ───────────────────────────────────────────────────────────────────────
 
--- an entry e at place i, whose variable, if it is one, has to stand at its own place of the condition
+-- an entry e at place i; a variable stands only where there are two values or more, and has to stand at its own place
+-- of the condition
 pub record EntryValid (positions : ℕ) (sizes condition : List ℕ) (i e : ℕ) : Type 0 where
   pub constant : e < firstVariable → e < width positions sizes i
   pub position : firstVariable ≤ e → e - firstVariable < positions
+  pub several : firstVariable ≤ e → ManyValued positions sizes i
   pub equalSizes : firstVariable ≤ e → width positions sizes (e - firstVariable) ≡ width positions sizes i
   pub itself : firstVariable ≤ e → getD condition (e - firstVariable) 0 ≡ e
 
@@ -137,7 +143,7 @@ pub record LinesValid (positions : ℕ) (sizes condition effect : List ℕ) : Ty
 pub record WellFormed (set : RuleSet) : Type 0 where
   pub positionLimits : (1 ≤ set .positions) × (set .positions ≤ maxPositions)
   pub sizesLength : length (set .sizes) ≡ placeCount
-  pub sizeLimits : (i : ℕ) → i < set .positions → (2 ≤ getD (set .sizes) i 0) × (getD (set .sizes) i 0 ≤ maxSize)
+  pub sizeLimits : (i : ℕ) → i < set .positions → (1 ≤ getD (set .sizes) i 0) × (getD (set .sizes) i 0 ≤ maxSize)
   pub sizesBeyond : (i : ℕ) → set .positions ≤ i → getD (set .sizes) i 0 ≡ 0
   pub countLimits : (1 ≤ set .count) × (set .count ≤ maxRules)
   pub rulesLength : length (set .rules) ≡ maxRules

@@ -39,8 +39,8 @@ pub fn entry_limited(positions: u8, sizes: &[u8; PLACE_COUNT], i: usize, entry: 
     entry - FIRST_VARIABLE < positions
 }
 
-// Whether a variable may stand at place i of an effect: equal sizes, and itself at its own place of the condition.
-// A constant always may.
+// Whether a variable may stand at place i of an effect: two values or more there, equal sizes, and itself at its own
+// place of the condition. A constant always may.
 pub fn effect_placed(
     positions: u8,
     sizes: &[u8; PLACE_COUNT],
@@ -53,8 +53,12 @@ pub fn effect_placed(
     if entry < FIRST_VARIABLE {
         return true;
     }
+    let width = width_at(positions, sizes, i);
+    if width < 2 {
+        return false;
+    }
     let place = (entry - FIRST_VARIABLE) as usize;
-    if width_at(positions, sizes, place) != width_at(positions, sizes, i) {
+    if width_at(positions, sizes, place) != width {
         return false;
     }
     entry_at(condition, place) == entry

@@ -51,7 +51,7 @@ fn list_item(
         ≡ found (r .outcome) (r .value) (r .next) (now (text .entry))) ⌝ }
 {
     match line {
-        Line::Sizes => number_within(text, at, 2, MAX_SIZE, end),
+        Line::Sizes => number_within(text, at, 1, MAX_SIZE, end),
         Line::Condition => condition_item(text, at, positions, sizes, before, i, end),
         Line::Effect => effect_item(text, at, positions, sizes, condition, i, end),
     }

@@ -14,7 +14,7 @@ use borrow.Author.Tests.{leb-true, ltb-true, lt-ltb}
 use Rattle.theory_spec.specs.Lists.{within}
 use Rattle.theory_spec.proofs.ListLaws.{same-test}
 use Rattle.theory_spec.proofs.TestLaws.{within-iff}
-use Rattle.model_spec.specs.States.{isConstant, width}
+use Rattle.model_spec.specs.States.{isConstant, width, manyValued}
 use Rattle.model_spec.specs.Validity.{variablePlace, conditionPlaced}
 use Rattle.model_spec.proofs.LoopLaws.{failed, passed}
 use Rattle.files_spec.specs.Reading.{
@@ -47,7 +47,8 @@ module _ (positions : ℕ) (sizes : List ℕ) where
   unfolding conditionPlaced
   placed-front l i e h =
       ap (λ c. conditionPlaced positions sizes c i e) (sym (take-suc-set l i e h))
-      ∙ ap (λ b. isConstant e || (eqb (width positions sizes (variablePlace e)) (width positions sizes i) && b))
+      ∙ ap (λ b. isConstant e || (manyValued positions sizes i
+      && (eqb (width positions sizes (variablePlace e)) (width positions sizes i) && b)))
       (look-front (set l i e) i (variablePlace e) e)
 
   -- an entry of an `if` line after the first i of an array

@@ -15,13 +15,12 @@ use lib.Seq.{take-append-add, take-at}
 use borrow.Author.Tests.{ltb-true}
 use Rattle.theory_spec.specs.Lists.{within, padded}
 use Rattle.theory_spec.proofs.ListLaws.{and-split}
-use Rattle.theory_spec.proofs.TestLaws.{below?, leb-iff, eqb-iff, and-iff, or-iff, within-iff}
+use Rattle.theory_spec.proofs.TestLaws.{below?, within-iff}
 use Rattle.model_spec.specs.Rules.{blankRule}
-use Rattle.model_spec.specs.States.{width}
 use Rattle.model_spec.specs.Validity.{conditionPlaced, effectPlaced, wellFormed, valid}
 use Rattle.model_spec.specs.declared.Rule.{Rule}
 use Rattle.model_spec.specs.declared.RuleSet.{RuleSet}
-use Rattle.model_spec.proofs.ValidityLaws.{valid-iff}
+use Rattle.model_spec.proofs.ValidityLaws.{condition-placed-iff, valid-iff}
 use Rattle.files_spec.specs.Text.{bytes, lineFeed, numeral}
 use Rattle.files_spec.specs.File.{variableLetter, render}
 use Rattle.files_spec.specs.Reading.{Parsed, refused, parsed, andRead, literal, isDigit, number, numberWithin, variable}
@@ -162,21 +161,18 @@ module _ (ending : ℕ) (digit : isDigit ending ≡ false) where
 -- a variable in place in a condition is not later than its place
 placed-early : (positions : ℕ) (sizes condition : List ℕ) (i e : ℕ)
     → conditionPlaced positions sizes condition i e ≡ true → e ≤ 16 + i
-unfolding conditionPlaced
 placed-early positions sizes condition i e h =
-    let tests =
-    or-iff e 16 _ (and-iff _ _ (eqb-iff (width positions sizes (e - 16)) (width positions sizes i))
-    (and-iff _ _ (leb-iff (e - 16) i) (eqb-iff (getD condition (e - 16) 0) e))) in
-    ⊎-elim (λ c. omega arith) (λ v. omega (arith, tests .0 h v .1 .0)) (below? e 16)
+    ⊎-elim (λ c. omega arith)
+    (λ v. omega (arith, condition-placed-iff positions sizes condition i e .0 h v .1 .1 .0)) (below? e 16)
 
 -- a size
 size-front : (before : List ℕ) (ending : ℕ) → isDigit ending ≡ false → ByFront (Within 3) 4 (sizeItem before ending)
 unfolding sizeItem
 size-front before ending digit =
-    weaker (λ m u. (within 2 16 m ≡ true) × NumberUse m u) (Within 3)
-    (λ m u h. let limits = within-iff 2 16 m .0 (h .0) in h .1 .two (omega arith)) 4 4 (sizeItem before ending)
+    weaker (λ m u. (within 1 16 m ≡ true) × NumberUse m u) (Within 3)
+    (λ m u h. let limits = within-iff 1 16 m .0 (h .0) in h .1 .two (omega arith)) 4 4 (sizeItem before ending)
     (omega arith)
-    (within-front ending digit 2 16)
+    (within-front ending digit 1 16)
 
 module _ (positions : ℕ) (sizes : List ℕ) (few : positions ≤ 16) (small : (i : ℕ) → i < positions → getD sizes i 0 ≤ 16)
     (before : List ℕ) (ending : ℕ)

@@ -6,16 +6,16 @@ use mathlib.Core.Logic.{⊎-elim}
 use mathlib.Core.List.{List, map}
 use Prim.Native.Nat.{ℕ, _-_, _≤_, _<_}
 use native.Mathlib.Omega.{arith}
-use lib.ListN.{length, getD, take, replicate, List·getD-map, List·getD-eq-default}
+use lib.ListN.{getD, take, replicate, List·getD-map, List·getD-eq-default}
 use lib.Seq.{take-all}
 use Rattle.theory_spec.specs.Lists.{padded}
 use Rattle.theory_spec.proofs.TestLaws.{below?}
 use Rattle.model_spec.specs.States.{State}
 use Rattle.model_spec.specs.Rules.{noRule, StateOf}
-use Rattle.model_spec.specs.Validity.{WellFormed, EntryValid}
+use Rattle.model_spec.specs.Validity.{WellFormed, LinesValid}
 use Rattle.model_spec.specs.declared.RuleSet.{RuleSet}
 use Rattle.model_spec.proofs.StateLaws.{width-beyond}
-use Rattle.model_spec.proofs.ValidityLaws.{valid-width-position}
+use Rattle.model_spec.proofs.ValidityLaws.{single-lines}
 use Rattle.search_spec.specs.Query.{Query, startState}
 use Rattle.search_spec.specs.Searched.{noMove, NotRefused, WellPosed}
 use Rattle.search_spec.proofs.VisitedLaws.{start-fits-iff}
@@ -25,29 +25,19 @@ use Rattle.search_spec.proofs.MeaningLaws.{not-refused-iff}
 use Rattle.search_laws.specs.how.Visits.{EndsAt, Lent, Reached}
 use Rattle.search_laws.specs.declared.Limits.{Limits}
 
-module _ (set : RuleSet) (v : WellFormed set) where
-  -- an entry beyond the positions is 0: a variable there would have the size of a position, which is at least 2
-  entry-beyond : (condition : List ℕ) (i e : ℕ) → set .positions ≤ i
-      → EntryValid (set .positions) (set .sizes) condition i e → e ≡ 0
-  entry-beyond condition i e h k =
-      let one = width-beyond (set .positions) (set .sizes) i h in
-      ⊎-elim (λ (b : e < 16). omega (arith, k .constant b, one))
-      (λ (b : 16 ≤ e). absurd (omega (
-        arith,
-        k .equalSizes b,
-        valid-width-position set v (e - 16) (k .position b),
-        one,
-      ))) (below? e 16)
-
-  -- so a line of a rule ends in zeros
-  line-beyond : (condition line : List ℕ) → length line ≡ 16
-      → ((i : ℕ) → i < 16 → EntryValid (set .positions) (set .sizes) condition i (getD line i 0))
-      → EndsAt (set .positions) line
-  line-beyond condition line size entries = (
-    size,
-    λ i h. ⊎-elim (λ b. entry-beyond condition i (getD line i 0) h (entries i b))
-        (λ b. List·getD-eq-default line 0 {n = i} (omega (arith, size))) (below? i 16),
+module _ (set : RuleSet) where
+  -- both lines of a rule end in zeros: beyond the positions there is a single value
+  lines-beyond : (condition effect : List ℕ) → LinesValid (set .positions) (set .sizes) condition effect
+      → EndsAt (set .positions) condition × EndsAt (set .positions) effect
+  lines-beyond condition effect v = (
+    (v .conditionLength, λ i h. zero i h .0),
+    (v .effectLength, λ i h. zero i h .1),
   )
+    where
+      zero : (i : ℕ) → set .positions ≤ i → (getD condition i 0 ≡ 0) × (getD effect i 0 ≡ 0)
+      zero i h =
+          single-lines (set .positions) (set .sizes) condition effect v i
+          (width-beyond (set .positions) (set .sizes) i h)
 
   -- and so has a state of the set's sizes
   state-beyond : (s : List ℕ) → StateOf set s → EndsAt (set .positions) s
@@ -75,6 +65,11 @@ module _ (set : RuleSet) (query : Query) (room : ℕ) (notRefused : NotRefused s
   valid : WellFormed set
   valid = judged .0 .0 .0 .0 .0 .0 .formed
 
+  rule-ends : (k : ℕ) → k < set .count → EndsAt (set .positions) (getD (set .rules) k noRule .condition)
+      × EndsAt (set .positions) (getD (set .rules) k noRule .effect)
+  rule-ends k h =
+      lines-beyond set (getD (set .rules) k noRule .condition) (getD (set .rules) k noRule .effect) (valid .lines k h)
+
   -- what stays the same all through
   lent-rules : Lent (map (λ rule. rule .condition) (set .rules)) (map (λ rule. rule .effect) (set .rules)) (query .goal)
       limits
@@ -86,15 +81,11 @@ module _ (set : RuleSet) (query : Query) (room : ℕ) (notRefused : NotRefused s
         reachLimits = goal .0 .0 .1 .0;
         goalLimit = omega (arith, goal .1 .0, valid .positionLimits);
         conditionEnds = λ k h.
-            let w = valid .lines k h in
             subst (EndsAt (set .positions)) (sym (List·getD-map (λ rule. rule .condition) (set .rules) k noRule))
-            (line-beyond set valid (getD (set .rules) k noRule .condition) (getD (set .rules) k noRule .condition)
-            (w .conditionLength) (w .conditionEntries));
+            (rule-ends k h .0);
         effectEnds = λ k h.
-            let w = valid .lines k h in
             subst (EndsAt (set .positions)) (sym (List·getD-map (λ rule. rule .effect) (set .rules) k noRule))
-            (line-beyond set valid (getD (set .rules) k noRule .condition) (getD (set .rules) k noRule .effect)
-            (w .effectLength) (w .effectEntries));
+            (rule-ends k h .1);
       }
 
   pub lent-whole : (conditions effects : List (List ℕ)) → conditions ≡ map (λ rule. rule .condition) (set .rules)
@@ -118,6 +109,6 @@ module _ (set : RuleSet) (query : Query) (room : ℕ) (notRefused : NotRefused s
         total = refl;
         stateEnd =
             rw (e ∙ start-fits)
-            (state-beyond set valid (startState query)
+            (state-beyond set (startState query)
             (start-state set query valid (start-fits-iff set (query .start) .1 (judged .0 .0 .0 .0 .1))));
       }

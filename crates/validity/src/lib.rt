@@ -28,14 +28,14 @@ fn in_range(least: u8, most: u8, number: u8) -> bool
     number <= most
 }
 
-// Whether the size at place i is 2 to 16 for a position, and 0 beyond.
+// Whether the size at place i is 1 to 16 for a position, and 0 beyond.
 fn size_valid(positions: u8, sizes: &[u8; PLACE_COUNT], i: usize) -> bool
     requires { ⌜ i < placeCount ⌝ }
     ensures { λ r. ⌜ r ≡ sizeValid positions (now (sizes .entry)) i ⌝ }
 {
     let size = sizes[i];
     if i < positions as usize {
-        return in_range(2, MAX_SIZE, size);
+        return in_range(1, MAX_SIZE, size);
     }
     size == 0
 }

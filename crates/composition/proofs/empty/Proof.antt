@@ -15,7 +15,7 @@ own-variables-requires c κs = search needs
 returns : tie.Need-returns
 unfolding emptyLines
 returns c =
-    let set = c .before .args .set in
+    let set = c .before .before .args .set in
     let own = ap (λ v. asVectors (some (record { condition = v; effect = v }))) (c .own-variables .ensures) in
     (own, λ valid. subst (EmptyMeaning set) (sym own) (empty-meaning set valid))
 

@@ -5,14 +5,15 @@ use mathlib.Core.Option.{Option, some, none}
 use Prim.Native.Nat.{ℕ}
 use Rattle.theory_spec.specs.Sets.{has, setOf}
 use Rattle.model_spec.specs.Limits.{placeCount}
+use Rattle.model_spec.specs.States.{manyValued}
 use Rattle.model_spec.specs.declared.RuleSet.{RuleSet}
 use Rattle.macros_spec.specs.Composition.{Lines}
-use Rattle.macros_spec.specs.Touched.{readAt, writtenAt, manyValued, untouched}
+use Rattle.macros_spec.specs.Touched.{readAt, writtenAt, untouched}
 use Rattle.macros_spec.specs.declared.Touched.{Touched}
 
 -- the positions with two values or more
 unfoldable pub widePositions : RuleSet → ℕ
-widePositions set = setOf (manyValued set) placeCount
+widePositions set = setOf (manyValued (set .positions) (set .sizes)) placeCount
 
 -- what vectors read and write among the positions of `wide`; nothing where there are none
 unfoldable pub touchedWithin : ℕ → Option Lines → Touched

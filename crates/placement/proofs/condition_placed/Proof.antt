@@ -14,7 +14,7 @@ use Rattle.placement.proofs.condition_placed.Tie as tie
 later : (positions : ℕ) (sizes condition : List ℕ) (i e : ℕ) → 16 ≤ e → i < e - 16
     → false ≡ conditionPlaced positions sizes condition i e
 unfolding conditionPlaced
-later positions sizes condition i e v h = rw (le-ltb e 16 v, lt-leb (e - 16) i h, and-false)
+later positions sizes condition i e v h = rw (le-ltb e 16 v, lt-leb (e - 16) i h, and-false, and-false)
 
 returns : tie.Need-returns
 unfolding conditionPlaced

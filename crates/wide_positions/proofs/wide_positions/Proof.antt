@@ -8,15 +8,14 @@ use lib.Dec.{ltb}
 use borrow.Author.Tests.{lt-ltb, le-ltb}
 use borrow.Author.Needs.{needs}
 use Rattle.theory_spec.proofs.SetLaws.{filled-none}
-use Rattle.model_spec.specs.States.{width}
-use Rattle.macros_spec.specs.Touched.{manyValued}
+use Rattle.model_spec.specs.States.{manyValued}
 use Rattle.macros_spec.specs.how.Touching.{widePositions}
 use Rattle.macros_spec.proofs.TouchedLoopLaws.{Filled, put-in, left-out, filled}
 use Rattle.wide_positions.proofs.wide_positions.Statement.{statement}
 use Rattle.wide_positions.proofs.wide_positions.Tie as tie
 
 abbrev Inv-loop : tie.InvT-loop
-Inv-loop positions sizes wide₀ k₀ wide k = Filled (λ i. ltb 1 (width positions sizes i)) wide k
+Inv-loop positions sizes wide₀ k₀ wide k = Filled (manyValued positions sizes) wide k
 
 abbrev μ-loop : tie.MeasureT-loop
 μ-loop positions sizes wide₀ k₀ wide k = 16 - k
@@ -52,7 +51,7 @@ loop-again c =
     (c .if1 .came)
 
 returns : tie.Need-returns Inv-loop μ-loop
-unfolding widePositions manyValued
+unfolding widePositions
 returns c = filled _ _ _ (c .before .loop .inv) (omega arith)
 
 pub wide-positions-spec : {M : Type 1} → statement M
