@@ -239,8 +239,9 @@ fn print_set(text: &[u8]) {
     }
 }
 
-// The set with one part of it spoiled, in one of twelve ways; in the thirteenth with the first rule's lines at cost 9
-// as its second rule, which spoils nothing; in any other way the set itself.
+// The set with one part of it spoiled, in one of twelve ways, of which the ninth, size 1 at position 1, spoils nothing
+// where every rule has 0 there; in the thirteenth with the first rule's lines at cost 9 as its second rule, which
+// spoils nothing; in any other way the set itself.
 fn spoiled(set: RuleSet, way: u8) -> RuleSet {
     let mut other = set;
     let mut sizes = set.sizes;

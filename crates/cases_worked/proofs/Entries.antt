@@ -19,7 +19,7 @@ use Rattle.files_spec.specs.Reading.{rulesAfter, ruleList, fileLines, finished,
 use Rattle.macros_spec.specs.Composition.{ownVariables, emptyLines, replaced, clash, equated, unified, followed}
 use Rattle.macros_spec.specs.Composition.{extended}
 use Rattle.macros_spec.specs.Composition.{composedFrom, composed}
-use Rattle.macros_spec.specs.Touched.{namedElsewhere, readAt, writtenAt, manyValued, touchedBy}
+use Rattle.macros_spec.specs.Touched.{namedElsewhere, readAt, writtenAt, touchedBy}
 use Rattle.macros_spec.specs.Answers.{macroCauses, touchedIn}
 use Rattle.tables_spec.specs.Table.{tableEntries, sequenceAt, entryAt, marked, builtEntry, builtTable, entryJustified}
 use Rattle.tables_spec.specs.Table.{accepted}
@@ -92,7 +92,7 @@ unfolding valueOf valuesOf applicable successor width states ruleAt stepOf ruleC
     digits isNumber decimal number numberWithin variable constant entry sizeItem conditionItem effectItem
     itemsAfter numberLine listLine ruleLines rulesAfter ruleList fileLines finished reading ownVariables
     emptyLines replaced clash equated unified followed extended composedFrom composed has setOf namedElsewhere
-    readAt writtenAt manyValued touchedBy touchedIn macroCauses ofText macroBytes roomCauses textMacro macroBuffer
+    readAt writtenAt touchedBy touchedIn macroCauses ofText macroBytes roomCauses textMacro macroBuffer
 macro-buffers = refl
 
 -- ── Tables ───────────────────────────────────────────────────────────────────────────────────────
@@ -142,7 +142,7 @@ unfolding valueOf valuesOf applicable successor width states ruleAt stepOf ruleC
     digits isNumber decimal number numberWithin variable constant entry sizeItem conditionItem effectItem
     itemsAfter numberLine listLine ruleLines rulesAfter ruleList fileLines finished reading ownVariables
     emptyLines replaced clash equated unified followed extended composedFrom composed has setOf namedElsewhere
-    readAt writtenAt manyValued touchedBy touchedIn tableEntries sequenceAt entryAt marked builtEntry builtTable
+    readAt writtenAt touchedBy touchedIn tableEntries sequenceAt entryAt marked builtEntry builtTable
     entryJustified accepted tableCauses buildOutcome checkCauses checkOutcome markedSequences unionOf tableTouched
     buildAnswer checkAnswer ofText packedTable textBuildAnswer textCheckAnswer
 table-numbers = refl

@@ -28,6 +28,16 @@ file positions sizes cost condition effect =
 abbrev lines : String → String → List ℕ
 lines condition effect = file "2" "3,3" "1" condition effect
 
+-- a file of one rule on two positions, the first of a single value, or the second, or both
+abbrev singleFirst : String → String → List ℕ
+singleFirst condition effect = file "2" "1,2" "1" condition effect
+
+abbrev singleLast : String → String → List ℕ
+singleLast condition effect = file "2" "2,1" "1" condition effect
+
+abbrev allSingle : String → String → List ℕ
+allSingle condition effect = file "2" "1,1" "1" condition effect
+
 -- a file of n rules, no two alike
 abbrev many : ℕ → List ℕ
 many n =
@@ -79,8 +89,8 @@ rows =
     ∷ record { text = bytes "positions=2" ++ (178 ∷ 10 ∷ []); outcome = 1 }
     ∷ record { text = bytes "positions=2" ++ (0 ∷ 10 ∷ []); outcome = 1 }
     -- item by item
-    ∷ record { text = bytes "positions=3\nsizes=1,2\n"; outcome = 2 }
-    ∷ record { text = bytes "positions=3\nsizes=2,1\n"; outcome = 1 }
+    ∷ record { text = bytes "positions=3\nsizes=0,2\n"; outcome = 2 }
+    ∷ record { text = bytes "positions=3\nsizes=2,0\n"; outcome = 1 }
     ∷ record { text = bytes "positions=1\nsizes=2,2\n"; outcome = 1 }
     ∷ record { text = bytes "positions=1\nsizes=2\nrules=0\n"; outcome = 2 }
     ∷ record { text = lines "x2,?" "0,0"; outcome = 3 }
@@ -101,6 +111,45 @@ rows =
     ∷ record { text = lines "x1,x2" "x2,x1"; outcome = 0 }
     ∷ record { text = lines "x1,x1" "x2,x1"; outcome = 3 }
     ∷ record { text = file "2" "3,2" "1" "x1,x2" "x2,0"; outcome = 3 }
+    -- positions with a single value (document 02, request 2026-05): both lines have 0 there. Another constant is 2, and
+    -- so is a variable of no position; any other variable there is 3, and one elsewhere that names such a position
+    ∷ record { text = singleFirst "0,x2" "0,0"; outcome = 0 }
+    ∷ record { text = singleFirst "1,x2" "0,0"; outcome = 2 }
+    ∷ record { text = singleFirst "x0,x2" "0,0"; outcome = 2 }
+    ∷ record { text = singleFirst "x3,x2" "0,0"; outcome = 2 }
+    ∷ record { text = singleFirst "x1,x2" "0,0"; outcome = 3 }
+    ∷ record { text = singleFirst "x2,x2" "0,0"; outcome = 3 }
+    ∷ record { text = singleFirst "0,x1" "0,0"; outcome = 3 }
+    ∷ record { text = singleFirst "0,x2" "1,0"; outcome = 2 }
+    ∷ record { text = singleFirst "0,x2" "x0,0"; outcome = 2 }
+    ∷ record { text = singleFirst "0,x2" "x3,0"; outcome = 2 }
+    ∷ record { text = singleFirst "0,x2" "x1,0"; outcome = 3 }
+    ∷ record { text = singleFirst "0,x2" "x2,0"; outcome = 3 }
+    ∷ record { text = singleFirst "0,x2" "0,x1"; outcome = 3 }
+    ∷ record { text = singleLast "x1,0" "0,0"; outcome = 0 }
+    ∷ record { text = singleLast "x1,1" "0,0"; outcome = 2 }
+    ∷ record { text = singleLast "x1,x0" "0,0"; outcome = 2 }
+    ∷ record { text = singleLast "x1,x3" "0,0"; outcome = 2 }
+    ∷ record { text = singleLast "x1,x1" "0,0"; outcome = 3 }
+    ∷ record { text = singleLast "x1,x2" "0,0"; outcome = 3 }
+    ∷ record { text = singleLast "x1,0" "0,1"; outcome = 2 }
+    ∷ record { text = singleLast "x1,0" "0,x0"; outcome = 2 }
+    ∷ record { text = singleLast "x1,0" "0,x3"; outcome = 2 }
+    ∷ record { text = singleLast "x1,0" "0,x2"; outcome = 3 }
+    ∷ record { text = singleLast "x1,0" "0,x1"; outcome = 3 }
+    ∷ record { text = singleLast "x1,0" "x2,0"; outcome = 3 }
+    ∷ record { text = allSingle "0,0" "0,0"; outcome = 0 }
+    ∷ record { text = allSingle "x1,0" "0,0"; outcome = 3 }
+    ∷ record { text = allSingle "0,x1" "0,0"; outcome = 3 }
+    ∷ record { text = allSingle "0,0" "x1,0"; outcome = 3 }
+    ∷ record { text = allSingle "0,0" "x2,0"; outcome = 3 }
+    ∷ record { text = file "1" "1" "1" "0" "0"; outcome = 0 }
+    ∷ record { text = file "1" "0" "1" "0" "0"; outcome = 2 }
+    -- item by item there too
+    ∷ record { text = bytes "positions=3\nsizes=1,2\n"; outcome = 1 }
+    ∷ record { text = singleFirst "x1;x2" "0,0"; outcome = 1 }
+    ∷ record { text = singleFirst "x1,?" "0,0"; outcome = 3 }
+    ∷ record { text = singleFirst "1,x1" "0,0"; outcome = 2 }
     -- rules: one less and one more than announced, duplicates, bytes left over
     ∷ record { text = bytes "positions=1\nsizes=2\nrules=2\ncost=1\nif=0\nthen=1\n"; outcome = 1 }
     ∷ record { text = lines "0,0" "1,1" ++ bytes "cost=1\nif=0,0\nthen=2,2\n"; outcome = 1 }
@@ -138,7 +187,9 @@ abbrev rewritten : List ℕ → List ℕ
 rewritten text = render (reading text .set)
 
 abbrev files : List (List ℕ)
-files = many 31 ∷ lines "x1,x1" "2,x1" ∷ file "1" "16" "255" "x1" "15" ∷ likeFirst "1" "2" ∷ likeFirst "2" "1" ∷ []
+files =
+    many 31 ∷ lines "x1,x1" "2,x1" ∷ file "1" "16" "255" "x1" "15" ∷ likeFirst "1" "2" ∷ likeFirst "2" "1"
+    ∷ singleFirst "0,x2" "0,1" ∷ allSingle "0,0" "0,0" ∷ []
 
 pub files-rewritten : map rewritten files ≡ files
 unfolding width conditionPlaced effectPlaced duplicate repeated hasDuplicates numeral line entryText ruleText render

@@ -22,7 +22,7 @@ use Rattle.files_spec.specs.Reading.{entry, sizeItem, conditionItem, effectItem
 use Rattle.files_spec.specs.Reading.{ruleLines, rulesAfter, ruleList, fileLines, finished, reading}
 use Rattle.macros_spec.specs.Composition.{ownVariables, emptyLines, replaced, clash, equated, unified, followed}
 use Rattle.macros_spec.specs.Composition.{extended, composedFrom, composed}
-use Rattle.macros_spec.specs.Touched.{namedElsewhere, readAt, writtenAt, manyValued, touchedBy}
+use Rattle.macros_spec.specs.Touched.{namedElsewhere, readAt, writtenAt, touchedBy}
 use Rattle.macros_spec.specs.Answers.{macroCauses, touchedIn, macroAnswer}
 use Rattle.macros_spec.specs.Redundancy.{covers, redundantByLines}
 use Rattle.tables_spec.specs.Table.{tableEntries, sequenceAt, entryAt, marked, builtEntry, builtTable, entryJustified}
@@ -43,6 +43,7 @@ use Rattle.cases_worked.proofs.Worked.{ruleSet, fileE, E, Question, sea
 use Rattle.cases_worked.proofs.Worked.{check, list, enter, Reply, composes, vectors, touches, builds, checks}
 use Rattle.cases_worked.proofs.Worked.{lists, packs, reply, Row, told, toldAtLimit, answer, keptBytes, markBytes}
 use Rattle.cases_worked.proofs.Worked.{tableE}
+use Rattle.cases_worked.proofs.SingleValues.{singleValues}
 
 -- ── Macros ───────────────────────────────────────────────────────────────────────────────────────
 
@@ -415,7 +416,7 @@ texts =
     ∷ []
 
 abbrev pub rows : List Row
-rows = macros ++ positions ++ tables ++ unions ++ sameLines ++ searches ++ texts
+rows = macros ++ positions ++ tables ++ unions ++ sameLines ++ searches ++ texts ++ singleValues
 
 pub further-cases : map (λ (row : Row). reply (row .asked)) rows ≡ map (λ (row : Row). row .expected) rows
 unfolding valueOf valuesOf applicable successor width states ruleAt stepOf ruleCost statesOf runIn sequenceCost admitted
@@ -423,7 +424,7 @@ unfolding valueOf valuesOf applicable successor width states ruleAt stepOf ruleC
     ruleBlank ruleValidAt rulesValid duplicate repeated hasDuplicates wellFormed valid literal digits isNumber decimal
     number numberWithin variable constant entry sizeItem conditionItem effectItem itemsAfter numberLine listLine
     ruleLines rulesAfter ruleList fileLines finished reading ownVariables emptyLines replaced clash equated unified
-    followed extended composedFrom composed has setOf namedElsewhere readAt writtenAt manyValued touchedBy touchedIn
+    followed extended composedFrom composed has setOf namedElsewhere readAt writtenAt touchedBy touchedIn
     macroCauses macroAnswer tableEntries sequenceAt entryAt marked builtEntry builtTable entryJustified accepted
     tableCauses buildOutcome builtBuffer checkCauses checkOutcome markedSequences unionOf tableTouched buildAnswer
     checkAnswer startFits goalFits meetsGoal visitedBy plansFor lookedAt cheapestLooked frontierOf floorBeside

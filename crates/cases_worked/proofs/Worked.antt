@@ -22,7 +22,7 @@ use Rattle.files_spec.specs.Reading.{entry, sizeItem, conditionItem, effectItem
 use Rattle.files_spec.specs.Reading.{ruleLines, rulesAfter, ruleList, fileLines, finished, reading}
 use Rattle.macros_spec.specs.Composition.{Lines, ownVariables, emptyLines, replaced, clash, equated, unified, followed}
 use Rattle.macros_spec.specs.Composition.{extended, composedFrom, composed}
-use Rattle.macros_spec.specs.Touched.{namedElsewhere, readAt, writtenAt, manyValued, touchedBy}
+use Rattle.macros_spec.specs.Touched.{namedElsewhere, readAt, writtenAt, touchedBy}
 use Rattle.macros_spec.specs.Answers.{macroCauses, touchedIn, macroAnswer}
 use Rattle.macros_spec.specs.declared.MacroAnswer.{MacroAnswer}
 use Rattle.macros_spec.specs.declared.Touched.{Touched}
@@ -152,7 +152,7 @@ abbrev pub answer : ℕ → ℕ → ℕ → TableAnswer
 answer outcome reads writes = record { outcome = outcome; touched = record { reads = reads; writes = writes } }
 
 -- the macro of three positions
-abbrev lines : List ℕ → List ℕ → ℕ → ℕ → ℕ → Reply
+abbrev pub lines : List ℕ → List ℕ → ℕ → ℕ → ℕ → Reply
 lines condition effect cost reads writes =
     composes (record {
       outcome = 0;
@@ -245,7 +245,7 @@ unfolding valueOf valuesOf applicable successor width states ruleAt stepOf ruleC
     ruleBlank ruleValidAt rulesValid duplicate repeated hasDuplicates wellFormed valid literal digits isNumber decimal
     number numberWithin variable constant entry sizeItem conditionItem effectItem itemsAfter numberLine listLine
     ruleLines rulesAfter ruleList fileLines finished reading ownVariables emptyLines replaced clash equated unified
-    followed extended composedFrom composed has setOf namedElsewhere readAt writtenAt manyValued touchedBy touchedIn
+    followed extended composedFrom composed has setOf namedElsewhere readAt writtenAt touchedBy touchedIn
     macroCauses macroAnswer tableEntries sequenceAt entryAt marked builtEntry builtTable entryJustified accepted
     tableCauses buildOutcome builtBuffer checkCauses checkOutcome markedSequences unionOf tableTouched buildAnswer
     checkAnswer startFits goalFits meetsGoal visitedBy plansFor lookedAt cheapestLooked frontierOf floorBeside
