@@ -146,6 +146,10 @@ static void macros(void)
         31, 17, 18, 19, 20, 21, 22, 23, 24, 25, 26, 27, 28, 29, 30, 31, 2, 0, 0, 0x80, 1, 0};
     /* runs from 0 alone, to 1 */
     static const uint8_t once[] = "positions=1\nsizes=2\nrules=1\ncost=1\nif=0\nthen=1\n";
+    /* position 1 has size 1, rule 1 puts 1 into position 2; the macro of no moves, and that of rule 1 */
+    static const uint8_t single[] = "positions=2\nsizes=1,2\nrules=1\ncost=1\nif=0,x2\nthen=0,1\n";
+    static const uint8_t of_none[PLANNER_MACRO_SIZE] = {[1] = 17, [17] = 17};
+    static const uint8_t of_one[PLANNER_MACRO_SIZE] = {[1] = 17, [17] = 1, [32] = 1, [36] = 2};
     uint8_t out[40];
     memset(out, 7, sizeof out);
     uint8_t outcome = planner_macro(rules, RULES_LENGTH, both, 2, out, sizeof out);
@@ -163,6 +167,10 @@ static void macros(void)
     expect("planner_macro of rule 3", outcome == PLANNER_UNKNOWN_MOVE && holds(out, sizeof out, NULL, 0, 0));
     outcome = planner_macro(once, sizeof once - 1, twice, 2, out, sizeof out);
     expect("planner_macro of no state", outcome == PLANNER_NOT_ADMITTED && holds(out, sizeof out, NULL, 0, 0));
+    outcome = planner_macro(single, sizeof single - 1, twice, 0, out, sizeof out);
+    expect("no moves at size 1", outcome == PLANNER_OK && holds(out, sizeof out, of_none, sizeof of_none, 0));
+    outcome = planner_macro(single, sizeof single - 1, twice, 1, out, sizeof out);
+    expect("a move at size 1", outcome == PLANNER_OK && holds(out, sizeof out, of_one, sizeof of_one, 0));
 }
 
 /* The answer of a search of E from 1,1 with these bounds. */
@@ -319,11 +327,13 @@ static uint8_t read_small(int size, int rule_count, int cost)
 }
 
 /* The names of the header for the numbers of a rule file: each is read, and the next refused. A file of one rule that
- * says the most of them ends early. */
+ * says the most of them ends early. Size 1 is read, and the variable refused there; size 0 is not. */
 static void numbers_of_files(void)
 {
     expect("PLANNER_MAX_SIZE", read_small(PLANNER_MAX_SIZE, 1, 1) == PLANNER_OK);
     expect("above PLANNER_MAX_SIZE", read_small(PLANNER_MAX_SIZE + 1, 1, 1) == PLANNER_OUTSIDE_LIMIT);
+    expect("a variable at size 1", read_small(1, 1, 1) == PLANNER_MISPLACED_VARIABLE);
+    expect("size 0", read_small(0, 1, 1) == PLANNER_OUTSIDE_LIMIT);
     expect("PLANNER_MAX_RULES", read_small(2, PLANNER_MAX_RULES, 1) == PLANNER_BAD_FORM);
     expect("above PLANNER_MAX_RULES", read_small(2, PLANNER_MAX_RULES + 1, 1) == PLANNER_OUTSIDE_LIMIT);
     expect("PLANNER_MAX_RULE_COST", read_small(2, 1, PLANNER_MAX_RULE_COST) == PLANNER_OK);

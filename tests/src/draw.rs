@@ -1,4 +1,5 @@
 //! Rule sets, tables and queries drawn at random. Rules are drawn so that sequences overlap, commute, undo each other and cost differently: much is prunable, and plans tie.
+//! Many sets have positions of size 1, and some have no others.
 
 use crate::calls::Query;
 use crate::oracle::file::read;
@@ -26,9 +27,22 @@ pub fn sizes(random: &mut Random, states: usize) -> Vec<u8> {
     sizes
 }
 
-/// The entries that leave all as it is.
+/// Document 02: "An always blocked bay is now written with size 1." One to nine such positions put in anywhere among
+/// the others, or in their place where there are sixteen.
+fn with_single_values(random: &mut Random, mut sizes: Vec<u8>) -> Vec<u8> {
+    for _ in 0..random.pick(&[1, 1, 1, 2, 2, 3, 9]) {
+        if sizes.len() < 16 {
+            sizes.insert(random.below(sizes.len() + 1), 1);
+        } else {
+            sizes[random.below(16)] = 1;
+        }
+    }
+    sizes
+}
+
+/// The entries that leave all as it is: "At a position of size 1 both lines must hold 0".
 fn idle(sizes: &[u8]) -> Vec<Entry> {
-    (0..sizes.len()).map(Entry::Place).collect()
+    (0..sizes.len()).map(|i| if sizes[i] == 1 { Entry::Value(0) } else { Entry::Place(i) }).collect()
 }
 
 /// A value of a position.
@@ -59,9 +73,10 @@ fn loose(random: &mut Random, sizes: &[u8]) -> (Vec<Entry>, Vec<Entry>) {
     (condition, effect)
 }
 
-/// Two positions, the same size for both if there are such.
+/// Two positions, the same size for both if there are such; most often of several values, if there are such.
 fn two_alike(random: &mut Random, sizes: &[u8]) -> (usize, usize) {
-    let one = random.below(sizes.len());
+    let several: Vec<usize> = (0..sizes.len()).filter(|&i| sizes[i] > 1).collect();
+    let one = if several.is_empty() || random.chance(10) { random.below(sizes.len()) } else { random.pick(&several) };
     let alike: Vec<usize> = (0..sizes.len()).filter(|&other| other != one && sizes[other] == sizes[one]).collect();
     (one, if alike.is_empty() { one } else { random.pick(&alike) })
 }
@@ -79,7 +94,7 @@ fn rule(random: &mut Random, kinds: &[usize], sizes: &[u8], earlier: &[Rule], co
         // exchanges two positions
         2 => effect.swap(one, other),
         // copies one position to another
-        3 => effect[one] = Entry::Place(other),
+        3 => effect[one] = condition[other],
         4 => (condition, effect) = loose(random, sizes),
         // an earlier rule the other way round
         5 => {
@@ -148,6 +163,11 @@ fn family(random: &mut Random, states: usize, most_rules: usize) -> (Vec<u8>, us
 /// A rule set that a file gives, with at most so many states, or some hundreds, and so many rules, or twenty.
 pub fn rule_set(random: &mut Random, states: usize, most_rules: usize) -> Set {
     let (sizes, number, kinds) = family(random, states, most_rules);
+    let sizes = match random.below(20) {
+        0 => vec![1; random.from_to(1, 16)],
+        1..=7 => with_single_values(random, sizes),
+        _ => sizes,
+    };
     let way = random.below(7);
     let mut set = Set { sizes, rules: vec![] };
     for _ in 0..4 * number {

@@ -1,6 +1,7 @@
 //! What happens in a random run, beside the outcomes: a run that tests too little is seen.
 
 use crate::calls::{Answer, Query};
+use crate::damage::changed_item;
 use crate::oracle::model::{Rule, Set};
 use crate::oracle::redundancy::Redundancy;
 use crate::oracle::search::{meets, plan_among, plan_looked_at, Ran};
@@ -92,6 +93,52 @@ pub struct Seen {
     pub floors_of_longer: u64,
     pub floors_of_denied: u64,
     pub floors_of_others: u64,
+    /// sets that are read with a position of size 1: beside others, or without
+    pub singles_beside: u64,
+    pub singles_alone: u64,
+    /// texts refused for one entry at such a position: with 3 for its own variable, in `if` or in `then`, or for that
+    /// of another such position
+    pub singles_own_if: u64,
+    pub singles_own_then: u64,
+    pub singles_of_another: u64,
+    /// with 2 for the constant 1, or for the variable of a position that is none
+    pub singles_constant: u64,
+    pub singles_unknown: u64,
+    /// with 3 for an entry at another position that names it, where its place in the order of positions is right
+    pub singles_named_if: u64,
+    pub singles_named_then: u64,
+    /// texts with one size changed: to 0, and refused with 2; to 1, and refused for an entry, with 3 or with 2
+    pub sizes_of_0: u64,
+    pub sizes_of_1_variable: u64,
+    pub sizes_of_1_constant: u64,
+    /// tables with an idle rule marked with the empty sequence: over such a position beside others, the rule asking for
+    /// nothing, or for something; without others
+    pub singles_idle: u64,
+    pub singles_idle_asking: u64,
+    pub singles_idle_alone: u64,
+    /// tables over such a position beside others with a mark by another than the empty sequence on one that can be run
+    pub singles_marks: u64,
+    /// macros over such sets: of no moves; of several moves, that read and write; that no state admits
+    pub singles_empty: u64,
+    pub singles_composed: u64,
+    pub singles_denied: u64,
+    /// searches refused with 9, or with 10, for a 1 at such positions and for nothing else
+    pub singles_start: u64,
+    pub singles_goal: u64,
+    /// searches over such sets with a plan of several moves: with a goal of 255 there, or of 0; with 18
+    pub singles_open: u64,
+    pub singles_held: u64,
+    pub singles_limited: u64,
+}
+
+/// The positions of size 1.
+fn singles(set: &Set) -> Vec<usize> {
+    (0..set.sizes.len()).filter(|&i| set.sizes[i] == 1).collect()
+}
+
+/// Whether a set has a position of size 1 beside others.
+fn is_mixed(set: &Set) -> bool {
+    (1..set.sizes.len()).contains(&singles(set).len())
 }
 
 impl Seen {
@@ -122,6 +169,85 @@ impl Seen {
         let free = Set { rules: set.rules.iter().map(|rule| Rule { cost: 0, ..rule.clone() }).collect(), ..set.clone() };
         let without_costs = Redundancy::new(&free, reach);
         self.kept_for_cost += u64::from(kept.iter().any(|&b| (0..b).any(|a| without_costs.redundant(b, a))));
+    }
+
+    /// Notes a set that was read.
+    pub fn set(&mut self, set: &Set) {
+        self.singles_beside += u64::from(is_mixed(set));
+        self.singles_alone += u64::from(singles(set).len() == set.sizes.len());
+    }
+
+    /// Notes the outcome of a text, where it is the set's file with one item changed.
+    pub fn changed(&mut self, set: &Set, file: &[u8], text: &[u8], outcome: usize) {
+        let Some((key, place, item)) = changed_item(file, text) else {
+            return;
+        };
+        if key == "sizes" {
+            self.sizes_of_0 += u64::from(item == "0" && outcome == 2);
+            self.sizes_of_1_variable += u64::from(item == "1" && outcome == 3);
+            self.sizes_of_1_constant += u64::from(item == "1" && outcome == 2);
+        }
+        if !["if", "then"].contains(&key) {
+            return;
+        }
+        let (single, condition) = (set.sizes[place] == 1, key == "if");
+        let named = item.strip_prefix('x').and_then(|number| number.parse::<usize>().ok());
+        let own = named == Some(place + 1);
+        let names_single = !own && named.is_some_and(|j| j > 0 && set.sizes.get(j - 1) == Some(&1));
+        let in_order = !condition || named.is_some_and(|j| j <= place);
+        self.singles_own_if += u64::from(single && own && condition && outcome == 3);
+        self.singles_own_then += u64::from(single && own && !condition && outcome == 3);
+        self.singles_of_another += u64::from(single && names_single && in_order && outcome == 3);
+        self.singles_constant += u64::from(single && item == "1" && outcome == 2);
+        let unknown = named.is_some_and(|j| j == 0 || j > set.sizes.len());
+        self.singles_unknown += u64::from(single && unknown && outcome == 2);
+        self.singles_named_if += u64::from(!single && names_single && in_order && condition && outcome == 3);
+        self.singles_named_then += u64::from(!single && names_single && !condition && outcome == 3);
+    }
+
+    /// Notes a table that was built, with what each sequence touches, by its index.
+    pub fn built(&mut self, set: &Set, reach: usize, touched: &[Touched], entries: &[u16]) {
+        let changes_nothing = |rule: &Rule| rule.condition == rule.effect;
+        let is_idle = |&number: &usize| changes_nothing(&set.rules[number - 1]) && entries[number] == 0;
+        let idle: Vec<usize> = (1..=set.rules.len()).filter(is_idle).collect();
+        if is_mixed(set) {
+            self.singles_idle += u64::from(idle.iter().any(|&number| touched[number].reads == 0));
+            self.singles_idle_asking += u64::from(idle.iter().any(|&number| touched[number].reads != 0));
+            let sequences = sequences(set.rules.len(), reach);
+            let by_rules = |index: usize| entries[index] != 0 && Run::of(set, &sequences[index]).is_some();
+            self.singles_marks += u64::from(marked(entries).any(by_rules));
+        } else if set.sizes[0] == 1 {
+            self.singles_idle_alone += u64::from(!idle.is_empty());
+        }
+    }
+
+    /// Notes a macro that was given, or that no state admits.
+    pub fn composed(&mut self, set: &Set, moves: &[u8], outcome: usize, touched: Touched) {
+        if is_mixed(set) {
+            self.singles_empty += u64::from(moves.is_empty() && outcome == 0);
+            self.singles_composed += u64::from(moves.len() > 1 && touched.reads != 0 && touched.writes != 0);
+            self.singles_denied += u64::from(outcome == 17);
+        }
+    }
+
+    /// Notes a query that was refused, with the set of its file.
+    pub fn refused(&mut self, set: &Set, query: &Query, outcome: usize) {
+        // each byte fits, but for a 1 where the size is 1
+        let fits = |bytes: &[u8], any: bool| {
+            let fits = |(&byte, &size): (&u8, &u8)| byte < size || any && byte == 255 || size == 1 && byte == 1;
+            bytes.len() == set.sizes.len() && bytes.iter().zip(&set.sizes).all(fits)
+        };
+        self.singles_start += u64::from(outcome == 9 && fits(&query.start, false));
+        self.singles_goal += u64::from(outcome == 10 && fits(&query.goal, true));
+    }
+
+    /// Notes a search that gave a plan.
+    pub fn planned(&mut self, set: &Set, query: &Query, answer: &Answer) {
+        if is_mixed(set) && answer.length() > 1 {
+            self.singles_open += u64::from(singles(set).iter().any(|&i| query.goal[i] == 255));
+            self.singles_held += u64::from(singles(set).iter().any(|&i| query.goal[i] == 0));
+            self.singles_limited += u64::from(answer.outcome() == 18);
+        }
     }
 
     /// Notes the sets of a macro.

@@ -22,6 +22,15 @@ const TEXTS: [&str; 9] = [
     "positions=16/sizes=16,16,16,16,16,16,16,16,16,16,16,16,16,16,16,2/rules=1/cost=9/if=x1,x2,x3,x4,x5,x6,x7,x8,x9,x10,x11,x12,x13,x14,x15,1/then=x15,x14,x13,x12,x11,x10,x9,x8,x7,x6,x5,x4,x3,x2,15,0/",
 ];
 
+/// Files with positions of size 1, without a fault.
+const SINGLES: [&str; 4] = [
+    "positions=1/sizes=1/rules=2/cost=0/if=0/then=0/cost=9/if=0/then=0/",
+    "positions=3/sizes=2,2,1/rules=2/cost=1/if=x1,x2,0/then=0,x2,0/cost=1/if=x1,x2,0/then=x1,0,0/",
+    "positions=4/sizes=1,12,1,12/rules=1/cost=100/if=0,x2,0,x2/then=0,11,0,x2/",
+    // a byte makes two rules equal: in `then`, in `cost`, in `if`
+    "positions=2/sizes=1,4/rules=4/cost=2/if=0,0/then=0,2/cost=2/if=0,0/then=0,3/cost=3/if=0,0/then=0,3/cost=2/if=0,1/then=0,2/",
+];
+
 fn damaged(text: &[u8], at: usize) -> Vec<Vec<u8>> {
     let (front, back) = text.split_at(at);
     let mut all = vec![front.to_vec(), [front, front, back].concat()];
@@ -52,13 +61,18 @@ fn call(text: Vec<u8>, turn: usize) -> Call {
 
 #[test]
 fn texts_damaged_at_every_byte() {
-    within(TEST_STACK, run_all);
+    within(TEST_STACK, || run_all("damage", &TEXTS, 50_000));
 }
 
-fn run_all() {
+#[test]
+fn texts_with_single_values_damaged_at_every_byte() {
+    within(TEST_STACK, || run_all("damage, single values", &SINGLES, 20_000));
+}
+
+fn run_all(test: &str, texts: &[&str], least: u64) {
     let mut tally = Tally::default();
     let mut turn = 0;
-    for text in TEXTS {
+    for text in texts {
         let text = text.replace('/', "\n").into_bytes();
         assert_eq!(compare(&Call::Read { text: text.clone() }, &mut tally).outcome(), 0);
         for at in 0..=text.len() {
@@ -71,7 +85,7 @@ fn run_all() {
             }
         }
     }
-    writeln!(std::io::stdout(), "damage: cases={} outcomes={}", tally.cases(), tally.outcomes()).expect("standard output");
-    assert!(tally.cases() > 50_000, "only {} cases", tally.cases());
+    writeln!(std::io::stdout(), "{test}: cases={} outcomes={}", tally.cases(), tally.outcomes()).expect("standard output");
+    assert!(tally.cases() > least, "only {} cases", tally.cases());
     tally.require_files(10);
 }

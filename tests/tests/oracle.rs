@@ -1,9 +1,10 @@
 //! The oracle against itself: its two ways to redundancy, to the positions that a sequence reads and writes, to the plan, to the steps and to the walk agree, a macro does what
-//! its rules do in every state, of two rules with the same lines the later one may be marked with the earlier exactly if it is dearer, and no plan is below a floor.
+//! its rules do in every state, of two rules with the same lines the later one may be marked with the earlier exactly if it is dearer, and no plan is below a floor. Lines
+//! have one form only. Of the sets that are drawn some have positions of size 1.
 
 use planner_tests::calls::Query;
 use planner_tests::draw;
-use planner_tests::oracle::model::Set;
+use planner_tests::oracle::model::{Entry, Rule, Set, State};
 use planner_tests::oracle::redundancy::Redundancy;
 use planner_tests::oracle::search::{
     all_within, floor, plan_among, plan_by_states, plan_looked_at, steps_among, steps_up_to, visited_among, visited_up_to, Ran,
@@ -20,10 +21,16 @@ fn drawn(test: &str, sets: usize, states: usize, rules: usize, mut check: impl F
     let seed = seed();
     writeln!(std::io::stdout(), "oracle, {test}: seed={seed} sets={sets}").expect("standard output");
     let mut random = Random::new(seed);
+    // sets with a position of size 1 beside others, and without others
+    let mut met = [0; 2];
     for _ in 0..sets {
         let set = draw::rule_set(&mut random, states, rules);
+        let singles = set.sizes.iter().filter(|&&size| size == 1).count();
+        met[0] += usize::from((1..set.sizes.len()).contains(&singles));
+        met[1] += usize::from(singles == set.sizes.len());
         check(&mut random, &set);
     }
+    assert!(met[0] >= sets / 5 && met[1] >= sets / 100, "too few of {sets}: {met:?}");
 }
 
 #[test]
@@ -57,6 +64,55 @@ fn a_macro_does_what_its_rules_do() {
             assert_eq!(whole.is_none(), set.states().iter().all(|state| set.run(&sequence, state).is_none()), "{set:?} {sequence:?}");
         }
     });
+}
+
+/// Where a sequence leads from each state.
+fn ends(set: &Set, sequence: &[u8]) -> Vec<Option<State>> {
+    set.states().iter().map(|state| set.run(sequence, state)).collect()
+}
+
+#[test]
+fn what_does_the_same_in_every_state_has_the_same_lines() {
+    // pairs of sequences that can be run, over sets with a position of size 1: that do the same, and that do not
+    let mut met = [0; 2];
+    drawn("lines", 600, 100, 5, |random, set| {
+        let mut all = sequences(set.rules.len(), 2);
+        all.extend((0..6).map(|_| (0..random.from_to(3, 6)).map(|_| random.from_to(1, set.rules.len()) as u8).collect()));
+        let ends: Vec<Vec<Option<State>>> = all.iter().map(|sequence| ends(set, sequence)).collect();
+        let line = |sequence: &Vec<u8>| Run::of(set, sequence).map(|run| run.as_rule(0));
+        let lines: Vec<Option<Rule>> = all.iter().map(line).collect();
+        for b in 0..all.len() {
+            // "At a position of size 1 both lines must hold 0", and "such a bay is in neither touched set"
+            for i in (0..set.sizes.len()).filter(|&i| set.sizes[i] == 1) {
+                let holds_0 = |rule: &Rule| rule.condition[i] == Entry::Value(0) && rule.effect[i] == Entry::Value(0);
+                assert!(lines[b].as_ref().is_none_or(holds_0), "{set:?} {:?}", all[b]);
+                let touched = Touched::by(set, &all[b]);
+                assert_eq!((touched.reads | touched.writes) >> i & 1, 0, "{set:?} {:?}", all[b]);
+            }
+            for a in 0..b {
+                assert_eq!(lines[a] == lines[b], ends[a] == ends[b], "{set:?} {:?} {:?}", all[a], all[b]);
+                if set.sizes.contains(&1) && lines[a].is_some() && lines[b].is_some() {
+                    met[usize::from(ends[a] != ends[b])] += 1;
+                }
+            }
+        }
+    });
+    assert!(met.iter().all(|&count| count >= 1000), "too few: {met:?}");
+}
+
+#[test]
+fn a_rule_is_read_in_one_form_only() {
+    // every rule over two positions of these sizes: so many are read, and no two of them do the same in every state
+    let entries = ["0", "1", "x1", "x2"];
+    let line = |number: usize| format!("{},{}", entries[number / 4], entries[number % 4]);
+    for (sizes, read) in [("1,1", 1), ("1,2", 7), ("2,1", 7), ("2,2", 77)] {
+        let front = format!("positions=2\nsizes={sizes}\nrules=1\ncost=1\n");
+        let text = |number: usize| format!("{front}if={}\nthen={}\n", line(number / 16), line(number % 16));
+        let sets = (0..256).filter_map(|number| file::read(text(number).as_bytes()).ok());
+        let ends: Vec<Vec<Option<State>>> = sets.map(|set| ends(&set, &[1])).collect();
+        assert_eq!(ends.len(), read, "{sizes}");
+        assert!((0..read).all(|later| !ends[..later].contains(&ends[later])), "{sizes}");
+    }
 }
 
 #[test]

@@ -72,6 +72,7 @@ impl Run {
         assert_eq!(read.as_ref(), Ok(&set));
         let mut judged = Judged::new(&read);
         let drawn = Drawn { set: &set, text: &text, few_states: set.states_within(300).is_some() };
+        self.seen.set(&set);
         self.seen.wide += u64::from(!drawn.few_states);
         self.seen.many_positions += u64::from(set.sizes.len() >= 12);
         self.files(&drawn, &mut judged);
@@ -115,7 +116,8 @@ impl Run {
         }
         for _ in 0..6 {
             let text = damage::damaged(&mut self.random, drawn.text);
-            compare(&Call::Read { text: text.clone() }, &mut self.tally);
+            let answer = compare(&Call::Read { text: text.clone() }, &mut self.tally);
+            self.seen.changed(drawn.set, drawn.text, &text, answer.outcome());
             let brought = drawn.set.same_lines().is_empty() && file::read(&text).is_ok_and(|set| !set.same_lines().is_empty());
             self.seen.same_lines_read += u64::from(brought);
             let length = self.random.pick(&[0, 1, 38, 400, text.len()]);
@@ -149,6 +151,10 @@ impl Run {
             let answer = compare_in(&call, judged, &mut self.tally);
             if answer.outcome() == 0 {
                 self.seen.touched(touched_at(&answer.buffer));
+                self.seen.composed(drawn.set, &moves, 0, touched_at(&answer.buffer));
+            }
+            if answer.outcome() == 17 {
+                self.seen.composed(drawn.set, &moves, 17, Touched::default());
             }
             if drawn.few_states && out_length >= 38 && [0, 17].contains(&answer.outcome()) {
                 self.seen.macros_run += 1;
@@ -161,6 +167,7 @@ impl Run {
         let (rules, table_length) = (drawn.text.to_vec(), 2 * count(drawn.set.rules.len(), reach));
         let answer = compare_in(&Call::BuildTable { rules: rules.clone(), table_length, reach }, judged, &mut self.tally);
         self.seen.unions(drawn.set, reach, judged.touched(reach), &entries_of(&answer.buffer), &answer);
+        self.seen.built(drawn.set, reach, judged.touched(reach), &entries_of(&answer.buffer));
         let wrong = self.random.pick(&[0, 1, table_length - 1, table_length + 1, table_length + 2, 2 * table_length]);
         compare_in(&Call::BuildTable { rules: rules.clone(), table_length: wrong, reach }, judged, &mut self.tally);
         let reach = self.random.pick(&ABSURD);
@@ -222,7 +229,10 @@ impl Run {
             call = self.faulty(drawn, call);
         }
         self.seen.several_causes += u64::from(causes > 1);
-        compare(&call, &mut self.tally);
+        let answer = compare(&call, &mut self.tally);
+        if let (Call::Search { query, .. }, Ok(set)) = (&call, file::read(call.text())) {
+            self.seen.refused(&set, query, answer.outcome());
+        }
     }
 
     /// A search that ends above its step limit with a plan of some moves, where one is hit upon.
@@ -249,6 +259,7 @@ impl Run {
         let (Call::Search { query, .. }, outcome @ (0 | 15 | 16 | 18)) = (call, answer.outcome()) else {
             return;
         };
+        self.seen.planned(drawn.set, query, answer);
         let Some(all) = all_within(drawn.set, query, LISTED) else {
             self.seen.deep += u64::from(outcome < 16);
             self.seen.limited_deep += u64::from(outcome == 18);
@@ -293,8 +304,11 @@ impl Run {
         let Call::Search { mut rules, mut table, mut reach, mut query, mut plan_length } = call else {
             return call;
         };
-        let at = self.random.below(drawn.set.sizes.len());
-        let wrong = [drawn.set.sizes[at], 16, 17, 254, 255];
+        let sizes = &drawn.set.sizes;
+        // often one of size 1, if there is one
+        let single: Vec<usize> = (0..sizes.len()).filter(|&i| sizes[i] == 1).collect();
+        let at = if single.is_empty() || self.random.chance(50) { self.random.below(sizes.len()) } else { self.random.pick(&single) };
+        let wrong = [sizes[at], sizes[at], 16, 17, 254, 255];
         match self.random.below(16) {
             0 => reach = self.reach(),
             1 => table.push(0),
@@ -304,7 +318,7 @@ impl Run {
             5 | 6 if at < query.start.len() => query.start[at] = self.random.pick(&wrong),
             7 => query.goal.push(255),
             8 => drop(query.goal.pop()),
-            9 | 10 if at < query.goal.len() => query.goal[at] = self.random.pick(&wrong[..4]),
+            9 | 10 if at < query.goal.len() => query.goal[at] = self.random.pick(&wrong[..5]),
             11 => query.max_moves = self.random.pick(&ABSURD),
             12 => plan_length = query.max_moves.saturating_sub(1).min(40),
             13 => table = vec![0; table.len()],

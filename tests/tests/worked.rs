@@ -70,8 +70,8 @@ fn edges() {
 #[test]
 fn faults_of_a_file_in_text_order() {
     // the first fault in the text counts; of one item its form and the byte that ends it, then its limit, then its variable
-    reads("positions=3/sizes=1,2/", 2);
-    reads("positions=3/sizes=2,1/", 1);
+    reads("positions=3/sizes=0,2/", 2);
+    reads("positions=3/sizes=2,0/", 1);
     reads("positions=17/", 2);
     reads("positions=17,", 1);
     reads("positions=17", 1);

@@ -1,4 +1,5 @@
-//! Document 01, "Yards, rules, rule files" and "A file is judged in text order": the reader, outcomes 1 to 4.
+//! Document 01, "Yards, rules, rule files" and "A file is judged in text order": the reader, outcomes 1 to 4. Document
+//! 02, 2026-05: sizes of 1.
 
 use super::model::{Entry, Rule, Set};
 
@@ -72,14 +73,16 @@ impl Text<'_> {
         }
     }
 
-    /// `if`: "`xj` .. needs equal sizes, j at most i, and `xj` itself at j."
+    /// `if`: "`xj` .. needs equal sizes, j at most i, and `xj` itself at j." Document 02: "At a position of size 1 both
+    /// lines must hold 0, and a variable there is out of place, number 3": its own too. A constant other than 0 is not
+    /// below that size.
     fn condition(&mut self, sizes: &[u8]) -> Result<Vec<Entry>, u8> {
         let mut line = vec![];
         for i in 0..sizes.len() {
             let entry = self.entry(ending(i, sizes.len()), i, sizes)?;
             line.push(entry);
             if let Entry::Place(j) = entry {
-                if j > i || sizes[j] != sizes[i] || line[j] != Entry::Place(j) {
+                if sizes[i] == 1 || j > i || sizes[j] != sizes[i] || line[j] != Entry::Place(j) {
                     return Err(VARIABLE);
                 }
             }
@@ -87,13 +90,14 @@ impl Text<'_> {
         Ok(line)
     }
 
-    /// `then`: "`xj` .. needs equal sizes and `xj` at j in the `if` line."
+    /// `then`: "`xj` .. needs equal sizes and `xj` at j in the `if` line." At a position of size 1 a variable is out of
+    /// place here too.
     fn effect(&mut self, sizes: &[u8], condition: &[Entry]) -> Result<Vec<Entry>, u8> {
         let mut line = vec![];
         for i in 0..sizes.len() {
             let entry = self.entry(ending(i, sizes.len()), i, sizes)?;
             if let Entry::Place(j) = entry {
-                if sizes[j] != sizes[i] || condition[j] != Entry::Place(j) {
+                if sizes[i] == 1 || sizes[j] != sizes[i] || condition[j] != Entry::Place(j) {
                     return Err(VARIABLE);
                 }
             }
@@ -130,7 +134,8 @@ pub fn read(bytes: &[u8]) -> Result<Set, u8> {
     text.key("sizes=")?;
     let mut sizes = vec![];
     for i in 0..positions {
-        sizes.push(text.limited(ending(i, positions), 2, 16)? as u8);
+        // document 01: "a size from 2 to 16"; document 02: "An always blocked bay is now written with size 1."
+        sizes.push(text.limited(ending(i, positions), 1, 16)? as u8);
     }
     text.key("rules=")?;
     let number = text.limited(LINE_FEED, 1, 31)?;

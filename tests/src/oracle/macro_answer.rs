@@ -23,7 +23,7 @@ pub fn macro_of(set: &Set, moves: &[u8], out_length: usize) -> Answer {
         return bare(8, zeros);
     }
     let rule = run.as_rule(set.cost(moves));
-    let touched = Touched::by_rule(&rule);
+    let touched = Touched::by_rule(&set.sizes, &rule);
     let numbers = [rule.cost as u16, touched.reads, touched.writes].map(u16::to_le_bytes).concat();
     let mut buffer = [sixteen(&rule.condition), sixteen(&rule.effect), numbers].concat();
     buffer.resize(out_length, 0);

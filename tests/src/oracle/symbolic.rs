@@ -1,7 +1,9 @@
 //! What a sequence does in all states at once, for any number of states: the macro, and redundancy.
-//! A run is followed on the unknown values at its start. Each rule's condition equates some of them with each other or with constants, and nothing else is ever
-//! learnt of them. So two of them, or one and a constant, that the conditions do not make equal differ in some state that meets the conditions: every size is at least 2, and the
-//! unknown values that are not tied can be chosen each for itself. Hence both tests below are exact.
+//! A run is followed on the unknown values at its start; a position of size 1 holds 0 and has none. Each rule's
+//! condition equates some of them with each other, at equal sizes, or with constants, and nothing else is ever learnt of
+//! them. So two of them, or one and a constant, that the conditions do not make equal differ in some state that meets
+//! the conditions: each is at a position of size 2 or more, and those that are not tied can be chosen each for itself.
+//! Hence both tests below are exact.
 
 use super::model::{Entry, Rule, Set};
 
@@ -23,8 +25,11 @@ fn meant(entry: Entry, now: &[Entry]) -> Entry {
 }
 
 impl Run {
-    fn begin(positions: usize) -> Run {
-        let own: Vec<Entry> = (0..positions).map(Entry::Place).collect();
+    /// "The empty sequence has every `xi` in its own place"; at a position of size 1, says document 02, it "likewise has
+    /// 0 there in both vectors".
+    fn begin(sizes: &[u8]) -> Run {
+        let own = |i: usize| if sizes[i] == 1 { Entry::Value(0) } else { Entry::Place(i) };
+        let own: Vec<Entry> = (0..sizes.len()).map(own).collect();
         Run { known: own.clone(), now: own }
     }
 
@@ -54,7 +59,7 @@ impl Run {
 
     /// The run of a sequence, or nothing if no state admits it.
     pub fn of(set: &Set, sequence: &[u8]) -> Option<Run> {
-        let mut run = Run::begin(set.sizes.len());
+        let mut run = Run::begin(&set.sizes);
         sequence.iter().all(|&number| run.extend(set.rule(number))).then_some(run)
     }
 

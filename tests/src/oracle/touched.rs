@@ -17,6 +17,11 @@ fn set_of(positions: usize, is_in: impl Fn(usize) -> bool) -> u16 {
     (0..positions).filter(|&i| is_in(i)).map(|i| 1 << i).sum()
 }
 
+/// 2026-05, of a position of size 1: "such a bay is in neither touched set", though its `if` entry is a constant.
+fn can_be_in(sizes: &[u8], i: usize) -> bool {
+    sizes[i] > 1
+}
+
 /// "positions whose `if` entry is a constant or names another position, or that another position's `if` or `then` entry names"
 fn read_at(rule: &Rule, i: usize) -> bool {
     let asks = match rule.condition[i] {
@@ -35,13 +40,14 @@ fn written_at(rule: &Rule, i: usize) -> bool {
 impl Touched {
     /// Those of the sequence's macro; "empty for a sequence that no yard admits".
     pub fn by(set: &Set, sequence: &[u8]) -> Touched {
-        Run::of(set, sequence).map_or(Touched::default(), |run| Touched::by_rule(&run.as_rule(0)))
+        Run::of(set, sequence).map_or(Touched::default(), |run| Touched::by_rule(&set.sizes, &run.as_rule(0)))
     }
 
-    /// Those of two lines.
-    pub fn by_rule(rule: &Rule) -> Touched {
-        let positions = rule.condition.len();
-        Touched { reads: set_of(positions, |i| read_at(rule, i)), writes: set_of(positions, |i| written_at(rule, i)) }
+    /// Those of two lines over these sizes.
+    pub fn by_rule(sizes: &[u8], rule: &Rule) -> Touched {
+        let reads = set_of(sizes.len(), |i| can_be_in(sizes, i) && read_at(rule, i));
+        let writes = set_of(sizes.len(), |i| can_be_in(sizes, i) && written_at(rule, i));
+        Touched { reads, writes }
     }
 
     /// What each sequence of at most `reach` rules touches, by its index.
