@@ -1,5 +1,5 @@
 // The work of the program `bench_search` in plain Rust, unproved: the table of a rule file, and a depth-first search with it. Written from document 01 and source documents 000 and 003; it
-// shares nothing with the library. It reads queries and files that have no fault.
+// shares nothing with the library. It reads queries and files that have no fault, and no position of size 1.
 // It knows nothing of a puzzle: a rule runs as its lines stand, entry by entry over the positions in use. Rules are lent, the plan, the best plan and the step count are changed in place, one
 // look-up serves all segments that end in the newest rule, and the search ends at the step limit.
 use std::io::Read;

@@ -1,6 +1,6 @@
 // The work of the program `bench_tables` in plain Rust, unproved: the macros of all sequences of at most three rules, each compared with every earlier one in turn until it is redundant
 // with one, and the positions that the marked ones read and write. Written from documents 01 and 02 and source document 003; it shares nothing with the library. It reads
-// files that have no fault.
+// files that have no fault and no position of size 1.
 use std::io::Read;
 
 // An entry below 16 is the variable of that place, counted from 0; from 16 on it is the constant `entry - 16`.

@@ -24,6 +24,9 @@ extern "C" {
 /* The version of this header and of the library that it declares. The first number is raised when an entry changes,
  * the second when something is added or more is accepted: a program may refuse to be compiled with a header that it was
  * not written for, by #if PLANNER_VERSION_MAJOR != 3.
+ * Since 3.1 a position may have size 1; its only value is 0. A file with one got 2 for it; now it is judged further,
+ * and both lines of each rule must have 0 there. A macro has 0 there in condition and effect, that of no moves too; a
+ * start has 0 there, a goal 0 or PLANNER_ANY.
  * Since 3.0 planner_search gives 18, with a plan that need not be the cheapest, to some queries that got 16 without
  * one: a program that was written for 2.1 has to know this outcome, and to call a plan the cheapest only at outcome 0.
  * planner_search_floor is new.
@@ -31,8 +34,8 @@ extern "C" {
  * Since 2.0 planner_build_table and planner_check_table give a packed answer: a program that was written for 1.0 has
  * to compare planner_outcome of it, for an accepted table can have other bits set; and a macro has 38 bytes, not 34. */
 #define PLANNER_VERSION_MAJOR 3
-#define PLANNER_VERSION_MINOR 0
-#define PLANNER_VERSION "3.0"
+#define PLANNER_VERSION_MINOR 1
+#define PLANNER_VERSION "3.1"
 
 /* What a call needs of the stack, in bytes. */
 #define PLANNER_STACK 262144
@@ -96,8 +99,8 @@ enum planner_outcome {
  * - writes the positions whose effect entry differs from their condition entry: from some state it changes them.
  * A position's own effect entry plays no part in what is read: x1 to 0 writes position 1 and reads none. A sequence is
  * taken as a whole: what it sets itself before it asks is not read, and what it puts back is not written. A position
- * with a single value is in neither set (no rule file has one, the least size is 2). A sequence that no state admits
- * reads and writes nothing. */
+ * of size 1 has 0 in condition and effect, and is in neither set. A sequence that no state admits reads and writes
+ * nothing. */
 #define PLANNER_MACRO_SIZE 38
 
 /* Searches for the cheapest plan from the start to the goal.
