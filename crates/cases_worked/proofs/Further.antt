@@ -42,7 +42,7 @@ use Rattle.cases_worked.proofs.Files.{likeFirst}
 use Rattle.cases_worked.proofs.Worked.{ruleSet, fileE, E, Question, search, macroOf, compose, touch, build}
 use Rattle.cases_worked.proofs.Worked.{check, list, enter, Reply, composes, vectors, touches, builds, checks}
 use Rattle.cases_worked.proofs.Worked.{lists, packs, reply, Row, told, toldAtLimit, answer, keptBytes, markBytes}
-use Rattle.cases_worked.proofs.Worked.{tableE}
+use Rattle.cases_worked.proofs.Worked.{tableE, listingE}
 use Rattle.cases_worked.proofs.SingleValues.{singleValues}
 
 -- ── Macros ───────────────────────────────────────────────────────────────────────────────────────
@@ -390,14 +390,7 @@ first =
 
 abbrev texts : List Row
 texts =
-    record {
-      asked = list fileE;
-      expected = lists
-          (bytes "reach=2\nrules=2\nmarks=3\n"
-          ++ bytes "drop=1,1\nfor=1\nreads=\nmoves=1\n"
-          ++ bytes "drop=2,1\nfor=1,2\nreads=\nmoves=1,2\n"
-          ++ bytes "drop=2,2\nfor=2\nreads=\nmoves=2\n");
-    }
+    record { asked = list fileE; expected = lists listingE }
     -- rule 2 reads 1, and its witness does not; no state admits (1,2), nor (2,2)
     ∷ record {
       asked = list fileCheapFirst;

@@ -9,7 +9,7 @@ use Rattle.files_spec.specs.Text.{bytes}
 use Rattle.tables_spec.specs.Table.{builtTable}
 use Rattle.cases_worked.proofs.Worked.{ruleSet, Question, search, macroOf, build, check, list, builds}
 use Rattle.cases_worked.proofs.Worked.{checks, lists, Row, told, toldAtLimit, answer, lines, keptBytes}
-use Rattle.cases_worked.proofs.Worked.{markBytes, tableE}
+use Rattle.cases_worked.proofs.Worked.{markBytes, tableE, listingE}
 
 -- ── E with a third position, of a single value ───────────────────────────────────────────────────
 
@@ -121,14 +121,7 @@ others =
 abbrev listings : List Row
 listings =
     -- E's listing. Wrong: `reads=3`, `moves=1,3`
-    record {
-      asked = list fileSingle;
-      expected = lists
-          (bytes "reach=2\nrules=2\nmarks=3\n"
-          ++ bytes "drop=1,1\nfor=1\nreads=\nmoves=1\n"
-          ++ bytes "drop=2,1\nfor=1,2\nreads=\nmoves=1,2\n"
-          ++ bytes "drop=2,2\nfor=2\nreads=\nmoves=2\n");
-    }
+    record { asked = list fileSingle; expected = lists listingE }
     ∷ record {
       asked = list fileAlone;
       expected = lists

@@ -178,6 +178,14 @@ tableE =
     keptBytes ++ keptBytes ++ keptBytes
     ++ markBytes 1 ++ keptBytes ++ markBytes 4 ++ markBytes 2
 
+-- the listing of E, as document 01 prints it, with the lines that document 02 adds
+abbrev pub listingE : List ℕ
+listingE =
+    bytes "reach=2\nrules=2\nmarks=3\n"
+    ++ bytes "drop=1,1\nfor=1\nreads=\nmoves=1\n"
+    ++ bytes "drop=2,1\nfor=1,2\nreads=\nmoves=1,2\n"
+    ++ bytes "drop=2,2\nfor=2\nreads=\nmoves=2\n"
+
 -- the table of P8: (1,2), index 6, is kept; (3,4), index 16, is marked with 12. Document 01 names these two; the others
 -- were worked by hand
 abbrev tableH : List ℕ

@@ -47,7 +47,7 @@ within-back lo hi ending n rest d l m b =
 -- ── Entries ──────────────────────────────────────────────────────────────────────────────────────
 
 -- the text of the variable of position j
-letter-text : (j : ℕ) → 1 ≤ j → entryText (15 + j) ≡ variableLetter ∷ numeral j
+pub letter-text : (j : ℕ) → 1 ≤ j → entryText (15 + j) ≡ variableLetter ∷ numeral j
 letter-text j h = let c : 15 + j - 15 ≡ j = omega arith in rw (variable-text (15 + j) (omega arith), c)
 
 -- a text that starts with the letter is the letter and what stands behind it
@@ -66,7 +66,7 @@ numeral-letter n rest h =
 
 module _ (positions : ℕ) (sizes : List ℕ) (i : ℕ) where
   -- the limit of a variable
-  limited-variable : (j : ℕ) → 1 ≤ j → entryLimited positions sizes i (15 + j) ≡ ltb (j - 1) positions
+  pub limited-variable : (j : ℕ) → 1 ≤ j → entryLimited positions sizes i (15 + j) ≡ ltb (j - 1) positions
   unfolding entryLimited
   limited-variable j h = let c : 15 + j - 16 ≡ j - 1 = omega arith in rw (le-ltb (15 + j) 16 (omega arith), c)
 

@@ -5,15 +5,20 @@ use mathlib.Core.Path.{_≡_, refl, sym, ap, _∙_}
 use mathlib.Core.Logic.{_↔_, _⊎_, inl, inr, ⊎-elim, Iff·trans}
 use mathlib.Core.Bool.{Bool, true, false, cond}
 use mathlib.Core.List.{List, [], _∷_, _++_}
-use Prim.Native.Nat.{ℕ, _+_, _≤_, _<_}
+use Prim.Native.Nat.{ℕ, _+_, _-_, _≤_, _<_}
+use native.Mathlib.Omega.{arith}
 use lib.Dec.{ltb, eqb}
 use lib.ListN.{length, getD, drop}
-use borrow.Author.Tests.{ltb-false, le-ltb}
+use borrow.Author.Tests.{ltb-false, lt-ltb, le-ltb}
 use Rattle.theory_spec.specs.Lists.{within}
 use Rattle.theory_spec.proofs.ListLaws.{never-true, not-both}
 use Rattle.theory_spec.proofs.TestLaws.{within-iff}
+use Rattle.model_spec.specs.States.{width}
+use Rattle.model_spec.specs.Validity.{entryLimited, conditionPlaced, effectPlaced}
+use Rattle.model_spec.proofs.StateLaws.{width-position}
+use Rattle.model_spec.proofs.ValidityLaws.{single-misplaced}
 use Rattle.files_spec.specs.Text.{numeral}
-use Rattle.files_spec.specs.File.{variableLetter}
+use Rattle.files_spec.specs.File.{variableLetter, entryText}
 use Rattle.files_spec.specs.Reading.{Parsed, refused, parsed, refusedUnless, literal, isDigit, digits, isNumber}
 use Rattle.files_spec.specs.Reading.{decimal, number, numberWithin, variable, constant, entry, Item, sizeItem}
 use Rattle.files_spec.specs.Reading.{conditionItem, effectItem}
@@ -22,7 +27,8 @@ use Rattle.files_spec.specs.Faults.{EntryFault, noEntry, constantOutside
 use Rattle.files_spec.specs.Faults.{SizeFault, ConditionFault, EffectFault}
 use Rattle.files_spec.proofs.ParserLaws.{not-refused, refused-first, made-iff, refused-test, failed-test}
 use Rattle.files_spec.proofs.NumberLaws.{literal-read, literal-back, number-read, number-back}
-use Rattle.files_spec.proofs.EntryLaws.{letter-front, numeral-letter, entry-read, entry-back}
+use Rattle.files_spec.proofs.EntryLaws.{letter-front, numeral-letter, letter-text, limited-variable, entry-read}
+use Rattle.files_spec.proofs.EntryLaws.{entry-back}
 
 -- ── Words and numbers: refused by 1, where there is none ─────────────────────────────────────────
 
@@ -233,3 +239,40 @@ module _ (n positions : ℕ) (sizes : List ℕ) (few : positions ≤ 16)
   unfolding effectItem
   effect-fault condition before ending text h digit =
       entry-fault n ending digit positions sizes _ (length before) text few h (small (length before) h)
+
+-- ── Places with a single value, as document 02 says it ───────────────────────────────────────────
+
+module _ (positions : ℕ) (sizes condition before : List ℕ) (ending : ℕ) (text : List ℕ) where
+  -- in either line a variable there is out of place, and so is one elsewhere that names such a place
+  pub single-variable-fault : (j : ℕ) → 1 ≤ j → j ≤ positions
+      → (width positions sizes (length before) ≡ 1) ⊎ (width positions sizes (j - 1) ≡ 1)
+      → Starts (variableText j) ending text
+      → ConditionFault 3 positions sizes before ending text × EffectFault 3 positions sizes condition before ending text
+  single-variable-fault j least most one starts = (
+    misplaced refl (15 + j) limited (out (before ++ ((15 + j) ∷ [])) .0) written,
+    misplaced refl (15 + j) limited (out condition .1) written,
+  )
+    where
+      limited : entryLimited positions sizes (length before) (15 + j) ≡ true
+      limited = limited-variable positions sizes (length before) j least ∙ lt-ltb (j - 1) positions (omega arith)
+
+      there : (width positions sizes (length before) ≡ 1) ⊎ (width positions sizes (15 + j - 16) ≡ 1)
+      there =
+          let same : 15 + j - 16 ≡ j - 1 = omega arith in
+          ⊎-elim inl (λ e. inr (ap (width positions sizes) same ∙ e)) one
+
+      out : (line : List ℕ) → (conditionPlaced positions sizes line (length before) (15 + j) ≡ false)
+          × (effectPlaced positions sizes line (length before) (15 + j) ≡ false)
+      out line = single-misplaced positions sizes line (length before) (15 + j) (omega arith) there
+
+      written : Starts (entryText (15 + j)) ending text
+      written = (starts .0, starts .1 ∙ ap (λ l. l ++ (ending ∷ starts .0)) (sym (letter-text j least)))
+
+  -- a constant other than 0 there is outside its limit
+  pub single-constant-fault : (c : ℕ) → 1 ≤ c → c < 1000 → length before < positions
+      → width positions sizes (length before) ≡ 1 → Starts (numeral c) ending text
+      → ConditionFault 2 positions sizes before ending text × EffectFault 2 positions sizes condition before ending text
+  single-constant-fault c least short inside one starts =
+      let size = width-position positions sizes (length before) inside in
+      let over : getD sizes (length before) 0 ≤ c = omega (arith, size, one) in
+      (constantOutside refl c short over starts, constantOutside refl c short over starts)

@@ -39,7 +39,7 @@ module _ (set : RuleSet) where
           single-lines (set .positions) (set .sizes) condition effect v i
           (width-beyond (set .positions) (set .sizes) i h)
 
-  -- and so has a state of the set's sizes
+  -- and so does a state of the set's sizes
   state-beyond : (s : List ℕ) → StateOf set s → EndsAt (set .positions) s
   state-beyond s k = (
     k .0,
