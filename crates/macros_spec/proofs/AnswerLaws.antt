@@ -22,7 +22,7 @@ use Rattle.macros_spec.specs.Answers.{sequenceCauses, macroCauses, macro
 use Rattle.macros_spec.specs.Answers.{macroAnswer}
 use Rattle.macros_spec.specs.Answers.{Judged}
 use Rattle.macros_spec.specs.declared.MacroAnswer.{MacroAnswer}
-use Rattle.macros_spec.proofs.MoveLaws.{no-unknown-iff}
+use Rattle.model_spec.proofs.MoveLaws.{no-unknown-iff}
 use Rattle.macros_spec.proofs.MeaningLaws.{admitted-composed}
 
 module _ (set : RuleSet) (moves : Sequence) where

@@ -24,7 +24,7 @@ use Rattle.macros_spec.specs.Composition.{Lines, composed, linesOf}
 use Rattle.macros_spec.specs.Redundancy.{endsIn, covers, lastNumber, redundantByLines, TellsRedundancy}
 use Rattle.macros_spec.specs.declared.Vectors.{Vectors}
 use Rattle.macros_spec.specs.Answers.{Means, macroAt}
-use Rattle.macros_spec.proofs.MoveLaws.{numbered-iff}
+use Rattle.model_spec.proofs.MoveLaws.{numbered-iff}
 use Rattle.macros_spec.proofs.VectorLaws.{values-values}
 use Rattle.macros_spec.proofs.CanonicalForm.{Canonical}
 use Rattle.macros_spec.proofs.DistinctLaws.{vectors-equal, values-equal}

@@ -16,7 +16,6 @@ pub mod SequenceTouchLaws
 pub mod DependLaws
 pub mod MacroLaws
 pub mod MeaningLaws
-pub mod MoveLaws
 pub mod MoveLoopLaws
 pub mod RunLaws
 pub mod UniqueLaws

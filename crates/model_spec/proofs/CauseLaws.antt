@@ -5,12 +5,14 @@ use mathlib.Core.Path.{_≡_, refl, sym}
 use mathlib.Core.Logic.{_↔_, _≢_, Iff·rfl}
 use mathlib.Core.Bool.{Bool, true, false, _||_, true≢false, false≢true}
 use mathlib.Core.List.{List, [], _∷_, _++_}
-use Prim.Native.Nat.{ℕ}
+use Prim.Native.Nat.{ℕ, _<_}
+use native.Mathlib.Omega.{arith}
 use lib.Dec.{eqb}
-use borrow.Author.Tests.{eq-eqb}
+use borrow.Author.Tests.{eq-eqb, ne-eqb}
 use Rattle.theory_spec.specs.Lists.{any}
 use Rattle.theory_spec.proofs.ListLaws.{not-both, never-true, or-left, or-right}
 use Rattle.model_spec.specs.Refusals.{Cause, firstRefusal, NoneHolds}
+use Rattle.model_spec.proofs.RefusalLaws.{AtMost}
 
 -- no cause of the list has the number k
 abbrev pub Apart : ℕ → List Cause → Type 0
@@ -18,6 +20,12 @@ Apart k causes = any (λ (cause : Cause). eqb (cause .0) k) causes ≡ false
 
 apart-rest : (a b : Bool) → (a || b) ≡ false → b ≡ false
 apart-rest a b h = never-true b (λ e. not-both (or-right a e) h)
+
+-- so it is where each has a smaller one
+pub larger-apart : (n k : ℕ) (causes : List Cause) → AtMost n causes → n < k → Apart k causes
+larger-apart n k [] h l = refl
+larger-apart n k ((m, b) ∷ causes) h l =
+    let low = h .0 in rw (ne-eqb m k (λ e. omega arith)) (larger-apart n k causes (h .1) l)
 
 -- then k is not the outcome
 pub other-number : (causes : List Cause) (k : ℕ) → k ≢ 0 → Apart k causes → firstRefusal causes ≢ k

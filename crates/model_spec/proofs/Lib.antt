@@ -3,6 +3,7 @@ pub mod RedundancyLaws
 pub mod RefusalLaws
 pub mod CauseLaws
 pub mod LoopLaws
+pub mod MoveLaws
 pub mod ValidityLaws
 pub mod Shapes
 pub mod CheckLaws

@@ -13,8 +13,7 @@ use lib.ListN.{length, getD, set, drop, drop-of-length-le}
 use lib.Dec.{eqb}
 use lib.Seq.{drop-cons}
 use borrow.Author.Tests.{eq-eqb, ne-eqb, not-true, not-false}
-use Rattle.theory_spec.specs.Lists.{any, every, numbersFrom, same}
-use Rattle.theory_spec.specs.how.Firsts.{firstThat}
+use Rattle.theory_spec.specs.Lists.{any, every, numbersFrom, firstThat, same}
 
 -- ── A test of the numbers from 0 to n ────────────────────────────────────────────────────────────
 

@@ -44,6 +44,13 @@ refusal-before [] after h = absurd (h refl)
 refusal-before ((n, true) ∷ before) after h = refl
 refusal-before ((n, false) ∷ before) after h = refusal-before before after h
 
+-- a cause that does not hold may be left out
+pub refusal-skip : (before after : List Cause) (n : ℕ)
+    → firstRefusal (before ++ ((n, false) ∷ after)) ≡ firstRefusal (before ++ after)
+refusal-skip [] after n = refl
+refusal-skip ((m, true) ∷ before) after n = refl
+refusal-skip ((m, false) ∷ before) after n = refusal-skip before after n
+
 -- no cause has a number above n
 abbrev pub AtMost : ℕ → List Cause → Type 0
 AtMost n [] = Unit {0}

@@ -56,7 +56,7 @@ pub fn rule_at(set: RuleSet, number: u8) -> Rule
 }
 
 // What the rule of a number costs: as that of 1 for 0, and nothing above 31.
-fn cost_at(set: RuleSet, number: u8) -> u8
+pub fn cost_at(set: RuleSet, number: u8) -> u8
     ensures { λ r. ⌜ r ≡ ruleAt set number .cost ⌝ }
 {
     if MAX_RULES < number {

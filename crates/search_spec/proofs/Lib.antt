@@ -4,6 +4,7 @@ pub mod Demand
 pub mod PlanVisited
 pub mod AtLimitLaws
 pub mod AnswerLaws
+pub mod EndLaws
 pub mod MeaningLaws
 pub mod OutcomeLaws
 pub mod PlanPartLaws

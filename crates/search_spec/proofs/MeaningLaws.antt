@@ -3,27 +3,26 @@
 -- Assumes nothing.
 use mathlib.Core.Path.{_≡_, refl, sym, ap, _∙_, subst}
 use mathlib.Core.Logic.{_↔_, _≢_, inl, inr, Iff·trans}
-use mathlib.Core.Bool.{Bool, true, not, _&&_}
+use mathlib.Core.Bool.{true, not}
 use mathlib.Core.List.{List, [], _∷_, _++_}
-use Prim.Native.Nat.{ℕ, _<_}
+use Prim.Native.Nat.{ℕ}
 use native.Mathlib.Omega.{arith}
 use lib.Dec.{ltb}
 use lib.ListN.{length, drop}
 use borrow.Author.Tests.{ltb-false, le-ltb}
-use Rattle.theory_spec.specs.Lists.{isSome}
 use Rattle.theory_spec.specs.Sequences.{Sequence}
-use Rattle.theory_spec.proofs.ListLaws.{of-isSome, there-iff}
-use Rattle.theory_spec.proofs.TestLaws.{ltb-iff, not-iff, fails-iff, unfailed-iff, and-iff}
+use Rattle.theory_spec.proofs.ListLaws.{of-isSome}
+use Rattle.theory_spec.proofs.TestLaws.{ltb-iff, not-iff, unfailed-iff}
 use Rattle.model_spec.specs.Refusals.{Cause, firstRefusal, NoneHolds}
 use Rattle.model_spec.specs.declared.RuleSet.{RuleSet}
-use Rattle.model_spec.proofs.RefusalLaws.{no-refusal-iff}
+use Rattle.model_spec.proofs.RefusalLaws.{no-refusal-iff, AtMost}
 use Rattle.model_spec.proofs.CauseLaws.{early-iff, passed-iff, refused-iff}
 use Rattle.tables_spec.specs.Table.{accepted, Accepted}
 use Rattle.tables_spec.specs.Answers.{tableCauses, buildOutcome, Ready}
 use Rattle.tables_spec.proofs.TableLaws.{accepted-iff}
 use Rattle.tables_spec.proofs.AnswerLaws.{build-ready-iff, build-meaning}
-use Rattle.search_spec.specs.Query.{Query, startFits, goalFits, visitedBy, StartFits, GoalFits, LeadsToGoal}
-use Rattle.search_spec.specs.Looked.{exceedsLimit, cheapestLooked, LookedPlan}
+use Rattle.search_spec.specs.Query.{Query, startFits, goalFits, StartFits, GoalFits}
+use Rattle.search_spec.specs.Looked.{cheapestLooked, LookedPlan}
 use Rattle.search_spec.specs.Searched.{
   queryCauses,
   cheapestPlan,
@@ -44,8 +43,9 @@ use Rattle.search_spec.specs.Searched.{
   SearchMeaning,
 }
 use Rattle.search_spec.proofs.VisitedLaws.{start-fits-iff, goal-fits-iff}
-use Rattle.search_spec.proofs.Demand.{query-numbers, cheapest-leads, none-leads, demand-3}
+use Rattle.search_spec.proofs.Demand.{query-numbers, demand-3}
 use Rattle.search_spec.proofs.LookedLaws.{looked-meaning, some-looked-iff}
+use Rattle.search_spec.proofs.EndLaws.{plan-at-limit-iff, none-at-limit-iff, unsolvable-iff, solved-iff}
 use Rattle.search_spec.proofs.AtLimitLaws.{plan-at-limit}
 use Rattle.search_spec.proofs.AnswerLaws.{search-numbers, refused-outcome, refused-no-answer}
 use Rattle.search_spec.proofs.AnswerLaws.{searched-blank, searched-floorless, refused-steps}
@@ -123,66 +123,29 @@ module _ (set : RuleSet) (query : Query) (room : ℕ) where
   abbrev outcome : ℕ
   outcome = firstRefusal causes
 
-  abbrev over : Bool
-  over = exceedsLimit set query
+  -- the causes of a query have numbers up to 14, and those of the ends come behind
+  pub query-few : AtMost 14 (queryCauses set query room)
+  unfolding queryCauses tableCauses
+  query-few = (
+    omega arith,
+    (omega arith, (omega arith, (omega arith, (omega arith, (omega arith, (omega arith, (omega arith, tt))))))),
+  )
 
-  abbrev untilLooked : List Cause
-  untilLooked = queryCauses set query room ++ ((18, over && isSome (cheapestLooked set query)) ∷ [])
+  planned : (outcome ≡ 18) ↔ (OverLimit set query room × ((q : Sequence) × LookedPlan set query q))
+  unfolding searchCauses
+  planned = plan-at-limit-iff set query (queryCauses set query room) not-refused-iff query-few
 
-  abbrev untilLimit : List Cause
-  untilLimit = untilLooked ++ ((16, over) ∷ [])
-
-  over-iff : (over ≡ true) ↔ (query .stepLimit < length (visitedBy set query))
-  over-iff = ltb-iff (query .stepLimit) (length (visitedBy set query))
-
-  -- the limit is exceeded, and a plan is looked at
-  looked-iff : ((over && isSome (cheapestLooked set query)) ≡ true)
-      ↔ ((query .stepLimit < length (visitedBy set query)) × ((q : Sequence) × LookedPlan set query q))
-  looked-iff = and-iff over (isSome (cheapestLooked set query)) over-iff (some-looked-iff set query)
-
-  until-looked-iff : NoneHolds untilLooked
-      ↔ (WellPosed set query room
-      × ((query .stepLimit < length (visitedBy set query)) × ((q : Sequence) × LookedPlan set query q) → ⊥))
-  until-looked-iff = passed-iff (queryCauses set query room) 18 _ not-refused-iff (fails-iff _ looked-iff)
-
-  plan-at-limit-iff : (outcome ≡ 18) ↔ (OverLimit set query room × ((q : Sequence) × LookedPlan set query q))
-  unfolding searchCauses queryCauses tableCauses
-  plan-at-limit-iff =
-      Iff·trans (refused-iff (queryCauses set query room) 18 _ not-refused-iff (drop 9 causes) (λ e. omega arith) refl
-      refl looked-iff) (λ w. ((w .0, w .1 .0), w .1 .1), λ w. (w .0 .0, (w .0 .1, w .1)))
-
-  none-at-limit-iff : (outcome ≡ 16) ↔ (OverLimit set query room × ((q : Sequence) → LookedPlan set query q → ⊥))
-  unfolding searchCauses queryCauses tableCauses
-  none-at-limit-iff =
-      Iff·trans (refused-iff untilLooked 16 _ until-looked-iff (drop 10 causes) (λ e. omega arith) refl refl over-iff) (
-        λ w. ((w .0 .0, w .1), λ q k. w .0 .1 (w .1, (q, k))),
-        λ w. ((w .0 .0, λ v. w .1 (v .1 .0) (v .1 .1)), w .0 .1),
-      )
-
-  within-limit-iff : NoneHolds untilLimit ↔ WithinLimit set query room
-  within-limit-iff =
-      Iff·trans (passed-iff untilLooked 16 _ until-looked-iff (
-        ltb-false (query .stepLimit) (length (visitedBy set query)),
-        le-ltb (query .stepLimit) (length (visitedBy set query)),
-      )) (λ w. (w .0 .0, w .1), λ w. ((w .0, λ v. omega (arith, v .0, w .1)), w .1))
-
-  -- there is a cheapest plan exactly if some sequence leads to the goal
-  some-plan-iff : (isSome (cheapestPlan set query) ≡ true) ↔ ((q : Sequence) × LeadsToGoal set query q)
-  some-plan-iff =
-      there-iff (cheapestPlan set query) (λ p e. cheapest-leads set query p e .0) (none-leads set query)
-
-  no-plan-iff : (not (isSome (cheapestPlan set query)) ≡ true) ↔ ((q : Sequence) → LeadsToGoal set query q → ⊥)
-  no-plan-iff =
-      let i = not-iff (isSome (cheapestPlan set query)) some-plan-iff in
-      (λ e q h. i .0 e (q, h), λ n. i .1 (λ w. n (w .0) (w .1)))
+  unplanned : (outcome ≡ 16) ↔ (OverLimit set query room × ((q : Sequence) → LookedPlan set query q → ⊥))
+  unfolding searchCauses
+  unplanned = none-at-limit-iff set query (queryCauses set query room) not-refused-iff query-few
 
   -- over the limit the steps are the limit
   limit-steps : Limited outcome → searched set query room .answer .steps ≡ query .stepLimit
   limit-steps w = byOver (over-limit w)
     where
       over-limit : Limited outcome → OverLimit set query room
-      over-limit (inl e) = none-at-limit-iff .0 e .0
-      over-limit (inr e) = plan-at-limit-iff .0 e .0
+      over-limit (inl e) = unplanned .0 e .0
+      over-limit (inr e) = planned .0 e .0
 
       byOver : OverLimit set query room → searched set query room .answer .steps ≡ query .stepLimit
       byOver o = omega (arith, demand-3 set query room (not-refused-iff .1 (o .0)) .steps, o .1)
@@ -190,7 +153,7 @@ module _ (set : RuleSet) (query : Query) (room : ℕ) where
   shown-at-limit : outcome ≡ 18 → PlanAtLimit set query room (searched set query room)
   unfolding searched
   shown-at-limit e =
-      let w = plan-at-limit-iff .0 e in
+      let w = planned .0 e in
       let p = of-isSome (cheapestLooked set query) (some-looked-iff set query .1 (w .1)) in
       subst (λ n. PlanAtLimit set query room (searchedWith set query room n)) (sym e)
       (plan-at-limit set query room (not-refused-iff .1 (w .0 .0)) (p .0) (p .1))
@@ -218,13 +181,11 @@ module _ (set : RuleSet) (query : Query) (room : ℕ) where
         notAccepted =
             refused-iff untilRoom 14 _ room-passed-iff (drop 8 causes) (λ e. omega arith) refl refl
             (not-iff _ accepts-iff);
-        planAtLimit = plan-at-limit-iff;
-        noneAtLimit = none-at-limit-iff;
-        unsolvable =
-            refused-iff untilLimit 15 _ within-limit-iff [] (λ e. omega arith) refl refl no-plan-iff;
+        planAtLimit = planned;
+        noneAtLimit = unplanned;
+        unsolvable = unsolvable-iff set query (queryCauses set query room) not-refused-iff query-few;
         solved =
-            Iff·trans (no-refusal-iff causes (search-numbers set query room))
-            (passed-iff untilLimit 15 _ within-limit-iff (unfailed-iff _ some-plan-iff));
+            solved-iff set query (queryCauses set query room) not-refused-iff query-few (search-numbers set query room);
         answered = λ f. demand-3 set query room (not-refused-iff .1 f);
         looked = looked-meaning set query;
         limitSteps = limit-steps;

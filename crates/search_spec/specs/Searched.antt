@@ -45,15 +45,18 @@ queryCauses set query room =
 unfoldable pub cheapestPlan : RuleSet → Query → Option Sequence
 cheapestPlan set query = cheapest (ruleCost set) (plansFor set query)
 
--- all causes of a search: last, more sequences to visit than the step limit, with a plan among those looked at or with
--- none; no plan
-unfoldable pub searchCauses : RuleSet → Query → ℕ → List Cause
-searchCauses set query room =
-    queryCauses set query room
-    ++ ((18, exceedsLimit set query && isSome (cheapestLooked set query))
+-- how a query ends that is not refused, if not with the cheapest plan: more sequences to visit than the step limit,
+-- with a plan among those looked at or with none; no plan
+abbrev pub endCauses : RuleSet → Query → List Cause
+endCauses set query =
+    (18, exceedsLimit set query && isSome (cheapestLooked set query))
     ∷ (16, exceedsLimit set query)
     ∷ (15, not (isSome (cheapestPlan set query)))
-    ∷ [])
+    ∷ []
+
+-- all causes of a search
+unfoldable pub searchCauses : RuleSet → Query → ℕ → List Cause
+searchCauses set query room = queryCauses set query room ++ endCauses set query
 
 -- the outcomes over the step limit (document 02: spent): no plan among what is looked at (16), or one (18)
 abbrev pub isLimited : ℕ → Bool

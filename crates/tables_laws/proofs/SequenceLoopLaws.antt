@@ -15,7 +15,7 @@ use Rattle.theory_spec.proofs.SequenceLaws.{numbered-append}
 use Rattle.theory_spec.proofs.IndexLaws.{sequence-at}
 use Rattle.model_spec.specs.Validity.{WellFormed}
 use Rattle.model_spec.specs.declared.RuleSet.{RuleSet}
-use Rattle.macros_spec.proofs.MoveLaws.{numbered-wider}
+use Rattle.model_spec.proofs.MoveLaws.{numbered-wider}
 use Rattle.tables_spec.specs.Table.{tableEntries, sequenceAt}
 use Rattle.tables_spec.proofs.CountLaws.{count-sequences}
 use Rattle.tables_laws.specs.how.ShortSequences.{shortSequence}

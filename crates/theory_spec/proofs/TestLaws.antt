@@ -9,8 +9,7 @@ use Prim.Native.Nat.{ℕ, zero, suc, _+_, _≤_, _<_}
 use lib.Dec.{leb, ltb, eqb}
 use native.Mathlib.Omega.{arith}
 use borrow.Author.Tests.{leb-true, le-leb, ltb-true, ltb-false, lt-ltb, eqb-true, eqb-false, eq-eqb, not-false}
-use Rattle.theory_spec.specs.Lists.{_∈_, any, every, numbersFrom, within, same}
-use Rattle.theory_spec.specs.how.Firsts.{firstThat}
+use Rattle.theory_spec.specs.Lists.{_∈_, any, every, numbersFrom, firstThat, within, same}
 use Rattle.theory_spec.proofs.ListLaws.{not-both, never-true, and-split, and-join, every-at, true-every}
 use Rattle.theory_spec.proofs.ListLaws.{any-true, true-any}
 use Rattle.theory_spec.proofs.ListLaws.{of-numbersFrom, in-numbersFrom, same-true, same-refl}

@@ -1,5 +1,5 @@
 -- Lists, and tests on their elements. A test is a `Bool`; it passes where it is `true`.
-use mathlib.Core.Bool.{Bool, true, false, _&&_, _||_}
+use mathlib.Core.Bool.{Bool, true, false, cond, _&&_, _||_}
 use mathlib.Core.Option.{Option, some, none}
 use mathlib.Core.List.{List, [], _∷_, _++_, List·Memᴰ}
 use Prim.Native.Nat.{ℕ, zero, suc, _-_}
@@ -59,6 +59,11 @@ module _ {A B : Type 0} where
 abbrev pub numbersFrom : ℕ → ℕ → List ℕ
 numbersFrom i zero = []
 numbersFrom i (suc n) = i ∷ numbersFrom (suc i) n
+
+-- the first number of a list that passes a test; 0 if none does
+abbrev pub firstThat : (ℕ → Bool) → List ℕ → ℕ
+firstThat test [] = 0
+firstThat test (k ∷ later) = cond (test k) k (firstThat test later)
 
 -- a number from lo to hi
 abbrev pub within : ℕ → ℕ → ℕ → Bool

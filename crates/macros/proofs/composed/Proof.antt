@@ -7,7 +7,7 @@ use lib.ListN.{length, take}
 use borrow.Author.Needs.{needs}
 use Rattle.macros_spec.specs.Composition.{emptyLines, composed, composedFrom, asVectors}
 use Rattle.macros_spec.proofs.CompositionLoopLaws.{compose-go, compose-end}
-use Rattle.macros_spec.proofs.MoveLaws.{numbered-at, rule-among}
+use Rattle.model_spec.proofs.MoveLaws.{numbered-at, rule-among}
 use Rattle.macros.proofs.composed.Statement.{statement}
 use Rattle.macros.proofs.composed.Tie as tie
 

@@ -19,7 +19,7 @@ use Rattle.macros_spec.specs.Touched.{touchedBy, touchedOf}
 use Rattle.macros_spec.specs.how.Touching.{widePositions, touchedWithin}
 use Rattle.macros_spec.specs.declared.Touched.{Touched}
 use Rattle.macros_spec.specs.declared.Vectors.{Vectors}
-use Rattle.macros_spec.proofs.MoveLaws.{no-unknown-iff, numbered-wider}
+use Rattle.model_spec.proofs.MoveLaws.{no-unknown-iff, numbered-wider}
 use Rattle.macros_spec.proofs.CompositionLoopLaws.{lines-denied, lines-admitted}
 use Rattle.macros_spec.proofs.AnswerLaws.{worked-long, worked-unknown, worked-denied, worked-given}
 use Rattle.macros_spec.proofs.TouchedLaws.{touched-within}

@@ -5,7 +5,7 @@ use native.Mathlib.Omega.{arith}
 use borrow.Author.Needs.{needs}
 use Rattle.model_spec.specs.declared.Rule.{Rule}
 use Rattle.model_spec.proofs.Shapes.{rules-31}
-use Rattle.macros_spec.proofs.MoveLaws.{rule-among, no-rule-cost}
+use Rattle.model_spec.proofs.MoveLaws.{rule-among, no-rule-cost}
 use Rattle.moves.proofs.cost_at.Statement.{statement}
 use Rattle.moves.proofs.cost_at.Tie as tie
 

@@ -2,7 +2,7 @@
 -- Assumes nothing.
 use borrow.Author.Needs.{needs}
 use Rattle.model_spec.specs.Rules.{sequenceCost}
-use Rattle.macros_spec.proofs.MoveLaws.{limited-cost-test}
+use Rattle.model_spec.proofs.MoveLaws.{limited-cost-test}
 use Rattle.redundancy.proofs.costs_at_most.Statement.{statement}
 use Rattle.redundancy.proofs.costs_at_most.Tie as tie
 

@@ -16,7 +16,7 @@ use Rattle.macros_spec.specs.Composition.{linesOf}
 use Rattle.macros_spec.specs.declared.Vectors.{Vectors}
 use Rattle.macros_spec.specs.Redundancy.{endsIn, covers, lastNumber, redundantByLines, TellsRedundancy}
 use Rattle.macros_spec.proofs.CoverLaws.{test-tells}
-use Rattle.macros_spec.proofs.MoveLaws.{no-unknown-iff, numbered-test, numbered-wider}
+use Rattle.model_spec.proofs.MoveLaws.{no-unknown-iff, numbered-test, numbered-wider}
 use Rattle.redundancy.proofs.is_redundant.Statement.{statement}
 use Rattle.redundancy.proofs.is_redundant.Tie as tie
 

@@ -9,7 +9,7 @@ use borrow.Author.Needs.{needs}
 use Rattle.model_spec.specs.Rules.{ruleAt, runIn}
 use Rattle.model_spec.proofs.LoopLaws.{failed, passed}
 use Rattle.macros_spec.specs.Redundancy.{endsIn}
-use Rattle.macros_spec.proofs.MoveLaws.{numbered-at}
+use Rattle.model_spec.proofs.MoveLaws.{numbered-at}
 use Rattle.macros_spec.proofs.MoveLoopLaws.{leads-go, leads-stop, leads-end}
 use Rattle.redundancy.proofs.leads.Statement.{statement}
 use Rattle.redundancy.proofs.leads.Tie as tie

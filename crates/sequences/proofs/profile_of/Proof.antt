@@ -9,7 +9,7 @@ use lib.ListN.{length, getD, take, drop}
 use borrow.Author.Needs.{needs}
 use Rattle.model_spec.specs.Rules.{ruleAt, sequenceCost}
 use Rattle.macros_spec.specs.Composition.{emptyLines, composedFrom, composed, asVectors}
-use Rattle.macros_spec.proofs.MoveLaws.{numbered-at}
+use Rattle.model_spec.proofs.MoveLaws.{numbered-at}
 use Rattle.macros_spec.proofs.MoveLoopLaws.{cost-go, cost-end}
 use Rattle.macros_spec.proofs.CompositionLoopLaws.{compose-go, compose-end}
 use Rattle.sequences.proofs.profile_of.Statement.{statement}
