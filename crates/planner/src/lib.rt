@@ -1,4 +1,5 @@
 // The entries that C programs call. All take a rule text; 1 to 4 of the text come before all else.
+mod explanation;
 mod floor;
 
 use packing::pack;

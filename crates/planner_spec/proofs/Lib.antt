@@ -8,3 +8,6 @@ pub mod TextTableLaws
 pub mod MacroBytesLaws
 pub mod TextMacroLaws
 pub mod MacroShape
+pub mod ExplanationBytesLaws
+pub mod TextExplainLaws
+pub mod ExplanationShape

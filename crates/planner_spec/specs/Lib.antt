@@ -6,4 +6,5 @@ pub mod TextSearch
 pub mod Rewriting
 pub mod TextTables
 pub mod TextMacro
+pub mod TextExplain
 pub mod how

@@ -1,0 +1,4 @@
+pub mod Reasons
+pub mod Segments
+pub mod Explained
+pub mod Meaning
