@@ -1,7 +1,7 @@
-// Runs the search, the plan handed back and the calls on tallies on the cases of standard input and prints what
-// they give. A case is a line: a letter, a space and a text. Each line is printed again, cut at 120 bytes, with the
-// answer after it. A line that begins with `#` is a heading. A number too large for 64 bits counts as the largest that
-// is not.
+// Runs the search, the plan handed back, the calls on tallies and the explanation of a proposal on the cases of
+// standard input and prints what they give. A case is a line: a letter, a space and a text. Each line is printed again,
+// cut at 120 bytes, with the answer after it. A line that begins with `#` is a heading. A number too large for 64 bits
+// counts as the largest that is not.
 // - `f` read the text, in which `/` stands for a line feed: the outcome. Its set is the one of the lines that follow
 // - `s` change the set's number of positions and its number of rules to these two: whether it is valid
 // - `b` a reach and a size: fill that many bytes with 170 and build a table in them, which then stands: the outcome
@@ -22,20 +22,27 @@
 //   it is kept. An outcome above 255 counts as 255, steps above 4,294,967,295 as that number
 // - `p` a length and a room: the plan handed back for that length from the first `room` bytes of the plan buffer
 //   that stands: its bytes
+// - `x` the same as for `q`, with a proposal in place of the room: why it is not the plan, with the table that stands:
+//   outcome, reason and place; the costs of the proposal and of the plan; the last move of the marked segment and how
+//   many moves it has; how many rules its witness has, and the witness's three bytes. A proposal is written as a start
+//   is; of more than 4,096 moves the first 4,096 count
 // A board of three by three cells has a position for each cell, row by row, that holds 0 for a blank (blanks are
 // alike) or the number of a tile. Its 24 rules are in the order of their names in source 000, by row, column and
 // direction, as in `cases_tables`: 1 is 11D, 5 is 12R, 9 is 21R, 19 is 31U.
 // Of the input the first 131,072 bytes are read. A heading of request 2026-03 names wrong planners, most with
 // step limits in brackets at which they would answer otherwise; `by` names the sequence whose cost is the floor.
-// The answers that `stdout` holds were worked out from documents 01 and 02 by a script that goes through the visited
-// sequences in depth-first order, up to one above the step limit; of at most 3,000 sequences within the move bound each
-// was also tested by itself. Within the limit the plan was compared with the first of the cheapest of all sequences,
-// pruned or not: for each length and state the cheapest that leads there, the first of these. Above it each extension
-// of each looked-at sequence was tested by the definition, and the floor compared with the least cost of all visited
-// ones not looked at, but for the two of 50,000 steps. Marks were tested in the states that admit a sequence, with
-// different unknowns for its free entries, and in small sets also by running both in every state. P1, P3 to P5, P9 and
-// P10 are as document 01 gives them, P2 as request 2026-03 does. The numbers of steps that a heading gives were worked
-// out by hand, and so were its plans and floors.
+// But for `x`, the answers that `stdout` holds were worked out from documents 01 and 02 by a script that goes through
+// the visited sequences in depth-first order, up to one above the step limit; of at most 3,000 sequences within the
+// move bound each was also tested by itself. Within the limit the plan was compared with the first of the cheapest of
+// all sequences, pruned or not: for each length and state the cheapest that leads there, the first of these. Above it
+// each extension of each looked-at sequence was tested by the definition, and the floor compared with the least cost of
+// all visited ones not looked at, but for the two of 50,000 steps. Marks were tested in the states that admit a
+// sequence, with different unknowns for its free entries, and in small sets also by running both in every state. P1, P3
+// to P5, P9 and P10 are as document 01 gives them, P2 as request 2026-03 does. The numbers of steps that a heading
+// gives were worked out by hand, and so were its plans and floors.
+// The answers to `x` were worked out by hand, line by line, from document 02, and compared with a script that tries
+// every segment and every reason on lists of all sequences, and finds the plan as above where these are more than
+// 3,000.
 use bounded::smaller;
 use buffers::fill_from;
 use bytes::scan::find;
@@ -45,6 +52,7 @@ use cases_common::behind;
 use cases_common::decode;
 use cases_common::number_of;
 use cases_common::up_to;
+use explain_spec::Explanation;
 use libc::STDIN_FILENO;
 use libc::STDOUT_FILENO;
 use model_spec::RuleSet;
@@ -328,8 +336,63 @@ fn print_tallied_search(
     next
 }
 
-// The search for a start and a goal, with the tally or without; the text holds moves, cost, limit and room. Gives the
-// tally.
+// The outcome and the reason of an explanation, with what the reason names.
+fn print_reason(answer: Explanation) {
+    print_byte(answer.outcome);
+    print(b"; reason ");
+    print_byte(answer.reason);
+    print(b"; place ");
+    print_byte(answer.place);
+    print(b"; costs ");
+    print_number(answer.cost as u64);
+    print(b",");
+    print_number(answer.plan_cost as u64);
+}
+
+// The marked segment of an explanation, with its witness.
+fn print_segment(answer: Explanation) {
+    print(b"; segment ");
+    print_number(answer.segment_end as u64);
+    print(b",");
+    print_byte(answer.segment_length);
+    print(b"; witness ");
+    print_byte(answer.witness_length);
+    print(b": ");
+    let witness = answer.witness;
+    print_moves(&witness);
+}
+
+// Why the proposal of a comma list is not the plan.
+fn print_explanation(
+    set: RuleSet,
+    reach: usize,
+    table: &[u8],
+    start: &[u8],
+    goal: &[u8],
+    moves: usize,
+    cost: u16,
+    limit: u32,
+    text: &[u8],
+) {
+    let mut proposal = io::buffer();
+    let size = list_of(text, &mut proposal);
+    let answer = explain::explain(
+        set,
+        reach,
+        table,
+        start,
+        goal,
+        moves,
+        cost,
+        limit,
+        &proposal[0..size],
+    );
+    print_reason(answer);
+    print_segment(answer);
+}
+
+// The answer to `q`, `k` or `x` for a start and a goal; the text holds moves, cost, limit and the room or the proposal.
+// Gives the tally.
 fn print_found(
     set: RuleSet,
     reach: usize,
@@ -339,16 +402,21 @@ fn print_found(
     text: &[u8],
     plan: &mut [u8],
     tally: Tally,
-    counted: bool,
+    verb: u8,
 ) -> Tally {
     let moves = number_of(up_to(b' ', text));
     let bounds = behind(b' ', text);
     let cost = smaller(number_of(up_to(b' ', bounds)), 65535) as u16;
     let limits = behind(b' ', bounds);
     let limit = smaller(number_of(up_to(b' ', limits)), 4294967295) as u32;
-    let room = smaller(number_of(behind(b' ', limits)), plan.len());
+    let last = behind(b' ', limits);
+    if verb == b'x' {
+        print_explanation(set, reach, table, start, goal, moves, cost, limit, last);
+        return tally;
+    }
+    let room = smaller(number_of(last), plan.len());
     let part = &mut plan[0..room];
-    if counted {
+    if verb == b'k' {
         return print_tallied_search(
             set,
             reach,
@@ -366,14 +434,14 @@ fn print_found(
     tally
 }
 
-// The search of a text with this plan buffer, with the tally or without; gives the tally.
+// The answer to `q` or `k`, with this plan buffer, or to `x`; gives the tally.
 fn print_query(
     set: RuleSet,
     text: &[u8],
     table: &[u8],
     plan: &mut [u8],
     tally: Tally,
-    counted: bool,
+    verb: u8,
 ) -> Tally {
     let mut starts = io::buffer();
     let mut goals = io::buffer();
@@ -392,14 +460,14 @@ fn print_query(
         numbers,
         plan,
         tally,
-        counted,
+        verb,
     )
 }
 
 // The answer to `q`: a plan buffer of its own, and the tally as it was.
 fn print_untallied(set: RuleSet, text: &[u8], table: &[u8], tally: Tally) -> Tally {
     let mut plan = io::buffer();
-    print_query(set, text, table, &mut plan, tally, false)
+    print_query(set, text, table, &mut plan, tally, b'q')
 }
 
 // The tally of a comma list.
@@ -514,11 +582,14 @@ fn next_tally(
         print_part(text, plan);
         return tally;
     }
-    if verb == b'k' {
-        return print_query(set, text, table, plan, tally, true);
-    }
     if verb == b'q' {
         return print_untallied(set, text, table, tally);
+    }
+    if verb == b'k' {
+        return print_query(set, text, table, plan, tally, verb);
+    }
+    if verb == b'x' {
+        return print_query(set, text, table, plan, tally, verb);
     }
     tally
 }

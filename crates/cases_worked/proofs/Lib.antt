@@ -5,3 +5,4 @@ pub mod SingleValues
 pub mod Further
 pub mod AtLimit
 pub mod Entries
+pub mod Explanations

@@ -188,7 +188,7 @@ listingE =
 
 -- the table of P8: (1,2), index 6, is kept; (3,4), index 16, is marked with 12. Document 01 names these two; the others
 -- were worked by hand
-abbrev tableH : List ℕ
+abbrev pub tableH : List ℕ
 tableH =
     keptBytes ++ keptBytes ++ keptBytes ++ keptBytes ++ keptBytes
     ++ markBytes 0 ++ keptBytes ++ keptBytes ++ markBytes 0
