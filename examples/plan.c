@@ -1,6 +1,6 @@
 /* Searches for the cheapest plan and shows it, one move a line; over the step limit, the cheapest of the plans met and
- * what every plan within the bounds costs at least. On request appends the answer to a log. Each answer is shown whole,
- * and nothing of an earlier one. */
+ * what every plan within the bounds costs at least. On request appends the answer to a log, and shows why a proposal is
+ * not the plan. Each answer is shown whole, and nothing of an earlier one. */
 #include <errno.h>
 #include <inttypes.h>
 #include <stdbool.h>
@@ -14,16 +14,18 @@
 #include "options.h"
 #include "planner.h"
 #include "query.h"
+#include "why.h"
 
 const char program[] = "plan";
 
 enum { DEFAULT_REACH = 2, DEFAULT_MOVES = 10, DEFAULT_COST = UINT16_MAX, DEFAULT_STEPS = 100000000 };
 
-/* A query with the names of its files, and where to log it: NULL for nowhere. */
+/* A query with the names of its files, where to log it, NULL for nowhere, and whether a proposal is to be explained. */
 struct request {
     const char *rules;
     const char *table;
     const char *log;
+    bool explains;
     struct query query;
 };
 
@@ -38,6 +40,7 @@ struct result {
 static void show_help(void)
 {
     printf("usage: plan RULES TABLE START GOAL [--reach N] [--moves N] [--cost N] [--steps N] [--log FILE]\n"
+           "            [--why MOVES]\n"
            "Shows the cheapest plan from START to GOAL: cost, length, steps and the rule numbers, one a line.\n"
            "  RULES       a rule file, of at most %d bytes; of a longer file the first %d are judged\n"
            "  TABLE       its pruning table, a file; or the word build, to build it (a file of that name: ./build).\n"
@@ -50,6 +53,8 @@ static void show_help(void)
            "  --steps N   the step limit: the most sequences to visit, 0 to %" PRIu32 "; default %d\n"
            "  --log FILE  append the answer and the rule file to FILE, under a lock, whole or not at all; SIGKILL\n"
            "              or a power cut may leave a part, after which nothing is appended\n"
+           "  --why MOVES say as well why a proposal is not the plan: a comma list of rule numbers, any number of\n"
+           "              them; --why= or --why '' for the proposal without a move\n"
            "  --help      show this and do nothing else\n"
            "  --version   show the version and do nothing else\n",
            PLANNER_MAX_FILE, MOST_OF_RULES, PLANNER_MAX_TABLE, PLANNER_ANY, PLANNER_MAX_REACH, DEFAULT_REACH,
@@ -58,8 +63,16 @@ static void show_help(void)
            "A value that begins with -- is written in this way only. Of an option given twice the last counts.\n"
            "With more sequences to visit than the step limit it shows the cheapest of the plans met, if any: it need\n"
            "not be the cheapest of all, and 'at least N' says that no plan within the bounds costs less than N.\n"
+           "With --why the reason follows, the first that holds of the whole proposal: it is over the move bound,\n"
+           "cannot be run, passes the cost bound, ends off the goal, costs more than the plan, costs as much and\n"
+           "comes later in the order (fewer moves first, at equal length the smaller rule number at the first\n"
+           "difference), is the plan. Moves and positions count from 1. Where the table marks a segment of the\n"
+           "proposal, neighbouring moves, there follow the one that ends soonest, at equal end the shorter, and its\n"
+           "witness: an earlier sequence that leads to the same state wherever the segment runs, at no more cost.\n"
+           "Above the step limit the search is not finished, and nothing is explained. An explanation is not logged.\n"
            "Exit status: 0 the cheapest plan, 1 another outcome, a plan that need not be the cheapest included,\n"
-           "2 a bad argument or a file that could not be read or written.\n");
+           "2 a bad argument or a file that could not be read or written. With --why 0 needs as well that the\n"
+           "proposal is explained, whatever the reason; a plan beside a proposal that is not explained is 1.\n");
 }
 
 /* One value of a list. */
@@ -88,6 +101,14 @@ static struct bytes values_of(const char *subject, const char *text, bool any_al
     return values;
 }
 
+/* The moves of a proposal: a comma list, or nothing. */
+static struct bytes moves_of(struct option option)
+{
+    if (option.value[0] == '\0')
+        return (struct bytes){NULL, 0, false};
+    return values_of(option.name, option.value, false);
+}
+
 /* The number of an option, or the one that it has when it is not given. */
 static uint64_t number_of(struct option option, uint64_t most, uint64_t otherwise)
 {
@@ -103,10 +124,10 @@ static bool builds_table(const struct request *request)
 /* The request of the command line, with every number as it was typed. */
 static struct request read_request(int count, char **arguments)
 {
-    enum { REACH, MOVES, COST, STEPS, LOG, OPTIONS };
+    enum { REACH, MOVES, COST, STEPS, LOG, WHY, OPTIONS };
     struct option options[OPTIONS + 1] = {
         [REACH] = {"--reach", NULL}, [MOVES] = {"--moves", NULL}, [COST] = {"--cost", NULL},
-        [STEPS] = {"--steps", NULL}, [LOG] = {"--log", NULL},
+        [STEPS] = {"--steps", NULL}, [LOG] = {"--log", NULL},     [WHY] = {"--why", NULL},
     };
     enum { RULES, TABLE, START, GOAL, OPERANDS };
     const char *operands[OPERANDS];
@@ -119,6 +140,9 @@ static struct request read_request(int count, char **arguments)
     request.query.step_limit = (uint32_t)number_of(options[STEPS], UINT32_MAX, DEFAULT_STEPS);
     request.query.start = values_of("START", operands[START], false);
     request.query.goal = values_of("GOAL", operands[GOAL], true);
+    request.explains = options[WHY].value != NULL;
+    if (request.explains)
+        request.query.moves = moves_of(options[WHY]);
     return request;
 }
 
@@ -267,6 +291,7 @@ static void discard(struct query *query)
     free(query->table.at);
     free(query->start.at);
     free(query->goal.at);
+    free(query->moves.at);
 }
 
 int main(int count, char **arguments)
@@ -281,7 +306,8 @@ int main(int count, char **arguments)
         result = search(&request.query);
     bool logged = request.log == NULL || log_result(&request, &result);
     show_result(&request.query, &result);
-    int status = finish(planner_outcome(result.answer));
+    uint8_t outcome = request.explains ? show_why(&request.query) : planner_outcome(result.answer);
+    int status = finish(outcome);
     discard(&request.query);
     return logged ? status : STATUS_FAILED;
 }

@@ -101,6 +101,27 @@ static void put_lengths(FILE *out, const struct query *query)
             fprintf(out, "; %zu is due at reach %zu", query->table.length, reach);
 }
 
+/* How many rules a rule file without a fault has: the number after the last is no rule's. */
+static uint8_t rule_count(struct bytes rules)
+{
+    uint8_t count = 0;
+    for (uint8_t rule = 1; rule <= PLANNER_MAX_RULES; rule++)
+        if (planner_macro(rules.at, rules.length, &rule, 1, NULL, 0) != PLANNER_UNKNOWN_MOVE)
+            count = rule;
+    return count;
+}
+
+/* The first move that is no rule's number. */
+static void put_unknown_move(FILE *out, struct bytes rules, struct bytes moves)
+{
+    uint8_t count = rule_count(rules);
+    size_t at = 0;
+    while (at < moves.length && moves.at[at] >= 1 && moves.at[at] <= count)
+        at++;
+    if (at < moves.length)
+        fprintf(out, ": move %zu is %u, the rules are 1 to %u", at + 1, moves.at[at], count);
+}
+
 void put_words(FILE *out, uint8_t outcome, const char *success, const struct query *query)
 {
     fputs(general_words(outcome, success), out);
@@ -126,6 +147,9 @@ void put_words(FILE *out, uint8_t outcome, const char *success, const struct que
         break;
     case PLANNER_TOO_MANY_MOVES:
         fprintf(out, ": %zu", query->max_moves);
+        break;
+    case PLANNER_UNKNOWN_MOVE:
+        put_unknown_move(out, query->rules, query->moves);
         break;
     case PLANNER_TABLE_NOT_ACCEPTED:
         fprintf(out, ": a mark is not justified; 'table build RULES %zu TABLE' writes a right one", query->reach);

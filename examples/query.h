@@ -11,12 +11,13 @@
  * byte more than any table has is no table's length: the planner says of these what it would say of the whole file. */
 enum { MOST_OF_RULES = PLANNER_MAX_FILE + 1, MOST_OF_TABLE = PLANNER_MAX_TABLE + 1 };
 
-/* A query. Of a table alone: its rules, table and reach. */
+/* A query, and the proposal of one that is to be explained. Of a table alone: its rules, table and reach. */
 struct query {
     struct bytes rules;
     struct bytes table;
     struct bytes start;
     struct bytes goal;
+    struct bytes moves;
     size_t reach;
     size_t max_moves;
     uint16_t max_cost;

@@ -24,6 +24,7 @@ extern "C" {
 /* The version of this header and of the library that it declares. The first number is raised when an entry changes,
  * the second when something is added or more is accepted: a program may refuse to be compiled with a header that it was
  * not written for, by #if PLANNER_VERSION_MAJOR != 3.
+ * Since 3.2 there is planner_explain, with the reasons and the parts of an explanation; no other entry changed.
  * Since 3.1 a position may have size 1; its only value is 0. A file with one got 2 for it; now it is judged further,
  * and both lines of each rule must have 0 there. A macro has 0 there in condition and effect, that of no moves too; a
  * start has 0 there, a goal 0 or PLANNER_ANY.
@@ -34,8 +35,8 @@ extern "C" {
  * Since 2.0 planner_build_table and planner_check_table give a packed answer: a program that was written for 1.0 has
  * to compare planner_outcome of it, for an accepted table can have other bits set; and a macro has 38 bytes, not 34. */
 #define PLANNER_VERSION_MAJOR 3
-#define PLANNER_VERSION_MINOR 1
-#define PLANNER_VERSION "3.1"
+#define PLANNER_VERSION_MINOR 2
+#define PLANNER_VERSION "3.2"
 
 /* What a call needs of the stack, in bytes. */
 #define PLANNER_STACK 262144
@@ -82,6 +83,20 @@ enum planner_outcome {
     PLANNER_PLAN_AT_LIMIT = 18       /* as 16, but with a plan among those visited: it need not be the cheapest */
 };
 
+/* Reasons why a proposal is not the plan. Each is asked of the whole proposal before the next, and the first that holds
+ * is given: one whose first move passes the cost bound and whose third cannot be run has PLANNER_CANNOT_RUN, place 3.
+ * Moves and positions count from 1. With outcome 15 the reason is one of 1 to 4. */
+enum planner_reason {
+    PLANNER_NO_REASON = 0,  /* nothing is explained */
+    PLANNER_OVER_MOVES = 1, /* it has more moves than the move bound */
+    PLANNER_CANNOT_RUN = 2, /* it cannot be run from the start; place: the first move that fails */
+    PLANNER_OVER_COST = 3,  /* it passes the cost bound; place: the first move at which the sum is above it */
+    PLANNER_OFF_GOAL = 4,   /* it ends off the goal; place: the lowest position that has not the value asked */
+    PLANNER_DEARER = 5,     /* it costs more than the plan; both costs are told */
+    PLANNER_LATER = 6,      /* as cheap as the plan; more moves, or the larger rule number at the first difference */
+    PLANNER_IS_PLAN = 7     /* it is the plan */
+};
+
 /* Any value, in a goal. Also every byte of a plan buffer that holds no move. */
 #define PLANNER_ANY 255
 
@@ -102,6 +117,12 @@ enum planner_outcome {
  * of size 1 has 0 in condition and effect, and is in neither set. A sequence that no state admits reads and writes
  * nothing. */
 #define PLANNER_MACRO_SIZE 38
+
+/* The bytes of an explanation: reason 1, place 1, the proposal's cost 2, the plan's cost 2, the segment's end 8, its
+ * length 1, the witness's length 1, witness 3, each number low byte first. What there is not is 0: the place but with
+ * reasons 2, 3 and 4; both costs but with reason 5; end, length and witness where no segment is marked; and what is
+ * left of the 3 bytes after the witness. */
+#define PLANNER_EXPLANATION_SIZE 19
 
 /* Searches for the cheapest plan from the start to the goal.
  * Takes a rule file; its table for this reach, built or from anywhere; a start and a goal with one byte for each
@@ -138,6 +159,26 @@ uint16_t planner_search_floor(const uint8_t *rules, size_t rules_length, const u
                               const uint8_t *start, size_t start_length, const uint8_t *goal, size_t goal_length,
                               uint8_t *plan, size_t plan_length, size_t reach, size_t max_moves, uint16_t max_cost,
                               uint32_t step_limit);
+
+/* Explains why a proposal is not the plan that planner_search shows.
+ * Takes what planner_search takes, and searches as it does; in place of the plan buffer the proposal, moves: any number
+ * of rule numbers, from 1, one byte each; and a buffer that is long enough with PLANNER_EXPLANATION_SIZE bytes.
+ * Outcomes, in this order: 1 to 4, 5, 6, 9, 10, 11, 14, 13, 18, 16, 15, 0. But for 13 it is the outcome that
+ * planner_search has with a plan buffer of PLANNER_MAX_MOVES bytes; 12 is never given.
+ * With outcome 0 or 15 out holds the explanation's PLANNER_EXPLANATION_SIZE bytes and zeros after them, else zeros:
+ * with 16 and 18, too, nothing is explained. A shorter out is filled with zeros, and the outcome is the same: with 0 or
+ * 15 no other explanation has PLANNER_NO_REASON. 11 speaks of max_moves alone, not of the proposal.
+ * planner_reason and the helpers that follow it take the explanation apart. The reason is PLANNER_IS_PLAN exactly if
+ * planner_search, with a plan buffer of at least max_moves bytes, shows the proposal with outcome 0.
+ * A segment is one or more neighbouring moves of the proposal. Where some are marked in the table, whatever the reason
+ * and wherever they stand, the explanation has the one that ends soonest, at equal end the shorter: moves
+ * end - length + 1 to end. Its witness is the table's: an earlier sequence, of 0 to PLANNER_MAX_REACH rule numbers,
+ * which runs wherever the segment does, to the same state, at no more cost. The segment's length tells an empty witness
+ * from none. The plan itself never has a marked segment. */
+uint8_t planner_explain(const uint8_t *rules, size_t rules_length, const uint8_t *table, size_t table_length,
+                        const uint8_t *start, size_t start_length, const uint8_t *goal, size_t goal_length,
+                        const uint8_t *moves, size_t moves_length, uint8_t *out, size_t out_length, size_t reach,
+                        size_t max_moves, uint16_t max_cost, uint32_t step_limit);
 
 /* Judges a rule file, a text of any bytes and length. Outcomes: 1 to 4, 0. Writes nothing. */
 uint8_t planner_read(const uint8_t *text, size_t text_length);
@@ -192,6 +233,29 @@ static inline uint64_t planner_size(uint64_t answer) { return answer >> 8; }
  * 1. */
 static inline uint16_t planner_reads(uint64_t answer) { return (uint16_t)(answer >> 16 & 0xffff); }
 static inline uint16_t planner_writes(uint64_t answer) { return (uint16_t)(answer >> 32 & 0xffff); }
+
+/* The parts of an explanation, a pointer to the PLANNER_EXPLANATION_SIZE bytes that planner_explain left. The witness
+ * is a pointer to its rule numbers, as many as its length says. */
+static inline uint8_t planner_reason(const uint8_t *explanation) { return explanation[0]; }
+static inline uint8_t planner_place(const uint8_t *explanation) { return explanation[1]; }
+static inline uint16_t planner_proposal_cost(const uint8_t *explanation)
+{
+    return (uint16_t)(explanation[2] | explanation[3] << 8);
+}
+static inline uint16_t planner_plan_cost(const uint8_t *explanation)
+{
+    return (uint16_t)(explanation[4] | explanation[5] << 8);
+}
+static inline uint64_t planner_segment_end(const uint8_t *explanation)
+{
+    uint64_t end = 0;
+    for (int at = 13; at >= 6; at--)
+        end = end << 8 | explanation[at];
+    return end;
+}
+static inline uint8_t planner_segment_length(const uint8_t *explanation) { return explanation[14]; }
+static inline uint8_t planner_witness_length(const uint8_t *explanation) { return explanation[15]; }
+static inline const uint8_t *planner_witness(const uint8_t *explanation) { return explanation + 16; }
 
 #ifdef __cplusplus
 }

@@ -35,6 +35,7 @@ words[6]='the table has not the length for these rules and this reach'
 words[9]='the start has a wrong length or a value not below its size'
 words[10]='the goal has a wrong length or a value not below its size'
 words[11]='more than 32 moves'
+words[13]="a move that is no rule's number"
 words[14]='the table is not accepted'
 words[15]='no plan within the bounds'
 words[16]='no plan met, and more sequences to visit than the step limit'

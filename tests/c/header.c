@@ -317,6 +317,161 @@ static void floors_of_other_sets(void)
     expect("a floor of two bytes", gives(&asked, packed(PLANNER_PLAN_AT_LIMIT, 2, 510, 5), 510, both, 2));
 }
 
+/* The outcome of an explanation of these moves, for what a search takes. */
+static uint8_t explain(const struct search *asked, const uint8_t *moves, size_t moves_length, uint8_t *out,
+                       size_t out_length)
+{
+    return planner_explain((const uint8_t *)asked->file, strlen(asked->file), asked->table, asked->table_length,
+                           asked->start, asked->start_length, asked->goal, asked->goal_length, moves, moves_length,
+                           out, out_length, asked->reach, asked->max_moves, asked->max_cost, asked->step_limit);
+}
+
+/* Whether the outcome is this one with buffers of all lengths, which then hold these bytes and zeros after them, or
+ * zeros alone if they are too short or the bytes are NULL; the byte after each stays as it was. */
+static bool explains(const struct search *asked, const uint8_t *moves, size_t length, uint8_t outcome,
+                     const uint8_t *bytes)
+{
+    static const size_t lengths[] = {0, 1, 18, 19, 40};
+    uint8_t out[41];
+    for (size_t at = 0; at < sizeof lengths / sizeof lengths[0]; at++) {
+        bool fits = bytes != NULL && lengths[at] >= PLANNER_EXPLANATION_SIZE;
+        memset(out, 7, sizeof out);
+        if (explain(asked, moves, length, out, lengths[at]) != outcome
+            || !holds(out, lengths[at], bytes, fits ? PLANNER_EXPLANATION_SIZE : 0, 0) || out[lengths[at]] != 7)
+            return false;
+    }
+    return explain(asked, moves, length, NULL, 0) == outcome;
+}
+
+/* P1, then another goal and other bounds. An explanation begins with reason and place; the costs stand from byte 2 on,
+ * the segment's end from 6, its length at 14, the witness's at 15, and the witness from 16. */
+static void explanations(void)
+{
+    static const uint8_t start[] = {1, 1}, goal[] = {0, 0}, any[] = {PLANNER_ANY, PLANNER_ANY};
+    static const uint8_t both[] = {1, 2}, turned[] = {2, 1}, three[] = {1, 2, 1};
+    static const uint8_t plan[PLANNER_EXPLANATION_SIZE] = {PLANNER_IS_PLAN};
+    /* 2,1 is marked for 1,2 */
+    static const uint8_t later[PLANNER_EXPLANATION_SIZE] = {
+        PLANNER_LATER, [6] = 2, [14] = 2, [15] = 2, [16] = 1, [17] = 2};
+    static const uint8_t over_moves[PLANNER_EXPLANATION_SIZE] = {
+        PLANNER_OVER_MOVES, [6] = 3, [14] = 2, [15] = 2, [16] = 1, [17] = 2};
+    static const uint8_t off_1[PLANNER_EXPLANATION_SIZE] = {PLANNER_OFF_GOAL, 1};
+    static const uint8_t off_2[PLANNER_EXPLANATION_SIZE] = {PLANNER_OFF_GOAL, 2};
+    static const uint8_t dearer[PLANNER_EXPLANATION_SIZE] = {PLANNER_DEARER, [2] = 1};
+    static const uint8_t over_cost[PLANNER_EXPLANATION_SIZE] = {PLANNER_OVER_COST, 2};
+    static const uint8_t over_one_move[PLANNER_EXPLANATION_SIZE] = {PLANNER_OVER_MOVES};
+    struct search asked = {
+        .file = (const char *)rules, .table = marks, .table_length = sizeof marks, .start = start, .start_length = 2,
+        .goal = goal, .goal_length = 2, .reach = 2, .max_moves = 2, .max_cost = 9, .step_limit = 4};
+    expect("PLANNER_EXPLANATION_SIZE", PLANNER_EXPLANATION_SIZE == 19);
+    expect("the plan proposed", explains(&asked, both, 2, PLANNER_OK, plan));
+    expect("a later proposal", explains(&asked, turned, 2, PLANNER_OK, later));
+    expect("a proposal over the move bound", explains(&asked, three, 3, PLANNER_OK, over_moves));
+    expect("a proposal off the goal", explains(&asked, both, 1, PLANNER_OK, off_2));
+    expect("no move proposed", explains(&asked, both, 0, PLANNER_OK, off_1));
+    expect("no move proposed, by NULL", explains(&asked, NULL, 0, PLANNER_OK, off_1));
+    asked.goal = any;
+    expect("a dearer proposal", explains(&asked, both, 1, PLANNER_OK, dearer));
+    asked.goal = goal;
+    asked.max_cost = 1;
+    expect("a proposal over the cost bound", explains(&asked, both, 2, PLANNER_NO_PLAN, over_cost));
+    asked.max_moves = 1;
+    expect("a proposal over one move", explains(&asked, both, 2, PLANNER_NO_PLAN, over_one_move));
+}
+
+/* Whether nothing is explained: the outcome, and no reason. */
+static bool explains_nothing(const struct search *asked, const uint8_t *moves, size_t length, uint8_t outcome)
+{
+    uint8_t out[PLANNER_EXPLANATION_SIZE];
+    return explains(asked, moves, length, outcome, NULL) && explain(asked, moves, length, out, sizeof out) == outcome
+        && planner_reason(out) == PLANNER_NO_REASON;
+}
+
+/* Each cause comes before the one that was there already. No plan buffer is lent: 12 is not among them. */
+static void explanations_refused(void)
+{
+    static const uint8_t start[] = {1, 1}, goal[] = {0, 0}, zeros[sizeof marks], both[] = {1, 2}, unknown[] = {1, 3};
+    struct search asked = {
+        .file = (const char *)rules, .table = marks, .table_length = sizeof marks, .start = start, .start_length = 2,
+        .goal = goal, .goal_length = 2, .reach = 2, .max_moves = 2, .max_cost = 9, .step_limit = 2};
+    expect("a proposal after two steps", explains_nothing(&asked, both, 2, PLANNER_STEP_LIMIT));
+    asked.step_limit = 3;
+    expect("the plan at the limit proposed", explains_nothing(&asked, both, 2, PLANNER_PLAN_AT_LIMIT));
+    expect("rule 3 proposed", explains_nothing(&asked, unknown, 2, PLANNER_UNKNOWN_MOVE));
+    expect("rule 0 proposed", explains_nothing(&asked, zeros, sizeof zeros, PLANNER_UNKNOWN_MOVE));
+    asked.table = zeros;
+    expect("a proposal with a wrong table", explains_nothing(&asked, unknown, 2, PLANNER_TABLE_NOT_ACCEPTED));
+    asked.max_moves = PLANNER_MAX_MOVES + 1;
+    expect("a proposal with too many moves", explains_nothing(&asked, unknown, 2, PLANNER_TOO_MANY_MOVES));
+    asked.goal_length = 1;
+    expect("a proposal with a short goal", explains_nothing(&asked, unknown, 2, PLANNER_BAD_GOAL));
+    asked.start_length = 1;
+    expect("a proposal with a short start", explains_nothing(&asked, unknown, 2, PLANNER_BAD_START));
+    asked.table_length = 13;
+    expect("a proposal with a short table", explains_nothing(&asked, unknown, 2, PLANNER_BAD_TABLE_LENGTH));
+    asked.reach = 4;
+    expect("a proposal at reach 4", explains_nothing(&asked, unknown, 2, PLANNER_BAD_REACH));
+    asked.file = "";
+    expect("a proposal without a rule file", explains_nothing(&asked, unknown, 2, PLANNER_BAD_FORM));
+}
+
+/* A move that fails, with a segment that no state admits; costs of two bytes; a search as deep as any; a segment whose
+ * end has two bytes. */
+static void explanations_of_other_sets(void)
+{
+    /* runs from 0 alone, to 1: 1,1 is marked for the empty sequence */
+    static const char once[] = "positions=1\nsizes=2\nrules=1\ncost=1\nif=0\nthen=1\n";
+    static const char dear[] =
+        "positions=2\nsizes=2,2\nrules=2\ncost=255\nif=x1,x2\nthen=0,x2\ncost=255\nif=x1,x2\nthen=x1,0\n";
+    static const uint8_t no_pair[] = {255, 255, 255, 255, 0, 0}, zero[] = {0}, one[] = {1}, twice[] = {1, 1};
+    static const uint8_t kept[] = {255, 255, 255, 255, 255, 255}, start[] = {1, 1}, goal[] = {0, 0};
+    /* nothing but 2,2 is marked, for 2 */
+    static const uint8_t one_mark[sizeof marks] = {255, 255, 255, 255, 255, 255, 255, 255, 255, 255, 255, 255, 2, 0};
+    static const uint8_t fails[PLANNER_EXPLANATION_SIZE] = {PLANNER_CANNOT_RUN, 2, [6] = 2, [14] = 2};
+    /* 765 and 510 */
+    static const uint8_t dearer[PLANNER_EXPLANATION_SIZE] = {PLANNER_DEARER, [2] = 253, [3] = 2, [4] = 254, [5] = 1};
+    /* moves 299 and 300 */
+    static const uint8_t far[PLANNER_EXPLANATION_SIZE] = {
+        PLANNER_OVER_MOVES, [6] = 44, [7] = 1, [14] = 2, [15] = 1, [16] = 2};
+    static uint8_t moves[300];
+    struct search asked = {
+        .file = once, .table = no_pair, .table_length = sizeof no_pair, .start = zero, .start_length = 1, .goal = one,
+        .goal_length = 1, .reach = 2, .max_moves = 2, .max_cost = 9, .step_limit = 4};
+    expect("a proposal that cannot be run", explains(&asked, twice, 2, PLANNER_OK, fails));
+    asked = (struct search){
+        .file = dear, .table = kept, .table_length = sizeof kept, .start = start, .start_length = 2, .goal = goal,
+        .goal_length = 2, .reach = 1, .max_moves = 3, .max_cost = 65535, .step_limit = 15};
+    memset(moves, 1, sizeof moves);
+    moves[1] = 2;
+    expect("costs of two bytes", explains(&asked, moves, 3, PLANNER_OK, dearer));
+    /* visited are 1 up to thirty-two times, then thirty-one times with 2 after it, which is a plan */
+    asked.max_moves = PLANNER_MAX_MOVES;
+    asked.step_limit = 40;
+    expect("a proposal after 32 moves", explains_nothing(&asked, moves, 3, PLANNER_PLAN_AT_LIMIT));
+    asked = (struct search){
+        .file = (const char *)rules, .table = one_mark, .table_length = sizeof one_mark, .start = start,
+        .start_length = 2, .goal = goal, .goal_length = 2, .reach = 2, .max_moves = 2, .max_cost = 9, .step_limit = 6};
+    moves[1] = 1;
+    moves[298] = moves[299] = 2;
+    expect("a segment far on", explains(&asked, moves, sizeof moves, PLANNER_OK, far));
+}
+
+/* Each helper takes its own bytes, low byte first. */
+static void parts_of_an_explanation(void)
+{
+    uint8_t bytes[PLANNER_EXPLANATION_SIZE];
+    for (size_t at = 0; at < sizeof bytes; at++)
+        bytes[at] = (uint8_t)(0xe0 + at);
+    expect("planner_reason", planner_reason(bytes) == 0xe0);
+    expect("planner_place", planner_place(bytes) == 0xe1);
+    expect("planner_proposal_cost", planner_proposal_cost(bytes) == 0xe3e2);
+    expect("planner_plan_cost", planner_plan_cost(bytes) == 0xe5e4);
+    expect("planner_segment_end", planner_segment_end(bytes) == 0xedecebeae9e8e7e6);
+    expect("planner_segment_length", planner_segment_length(bytes) == 0xee);
+    expect("planner_witness_length", planner_witness_length(bytes) == 0xef);
+    expect("planner_witness", planner_witness(bytes) == bytes + 16);
+}
+
 /* The outcome of a rule file with one rule and one position, of this size and cost; its front says so many rules. */
 static uint8_t read_small(int size, int rule_count, int cost)
 {
@@ -413,6 +568,10 @@ static void *all(void *unused)
     searches();
     floors();
     floors_of_other_sets();
+    explanations();
+    explanations_refused();
+    explanations_of_other_sets();
+    parts_of_an_explanation();
     numbers_of_files();
     limits();
     version();

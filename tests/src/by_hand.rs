@@ -28,6 +28,62 @@ pub fn searches(search: &Call, number: u64, floor: u64, buffer: Vec<u8>) {
     gives(&search.for_floor().expect("a search"), floor, buffer);
 }
 
+/// What an explanation says; by default nothing.
+#[derive(Clone, Copy, Debug, Default, PartialEq)]
+pub struct Why<'a> {
+    pub reason: u8,
+    pub place: u8,
+    pub cost: u16,
+    pub plan_cost: u16,
+    pub end: u64,
+    pub length: u8,
+    pub witness: &'a [u8],
+}
+
+/// Document 02's seven reasons, with the move, the position or the costs that they are given with.
+impl<'a> Why<'a> {
+    pub fn over_move_bound() -> Self {
+        Why { reason: 1, ..Why::default() }
+    }
+
+    pub fn cannot_run(place: u8) -> Self {
+        Why { reason: 2, place, ..Why::default() }
+    }
+
+    pub fn passes_cost_bound(place: u8) -> Self {
+        Why { reason: 3, place, ..Why::default() }
+    }
+
+    pub fn off_goal(place: u8) -> Self {
+        Why { reason: 4, place, ..Why::default() }
+    }
+
+    pub fn dearer(cost: u16, plan_cost: u16) -> Self {
+        Why { reason: 5, cost, plan_cost, ..Why::default() }
+    }
+
+    pub fn later() -> Self {
+        Why { reason: 6, ..Why::default() }
+    }
+
+    pub fn is_plan() -> Self {
+        Why { reason: 7, ..Why::default() }
+    }
+
+    /// The same with a marked segment: the number of its last move, its length and its witness.
+    pub fn marked(self, end: u64, length: u8, witness: &'a [u8]) -> Self {
+        Why { end, length, witness, ..self }
+    }
+
+    /// PLANNER_EXPLANATION_SIZE bytes, each number low byte first.
+    pub fn bytes(&self) -> Vec<u8> {
+        let costs = [self.cost, self.plan_cost].map(u16::to_le_bytes).concat();
+        let mut bytes = [&[self.reason, self.place][..], &costs, &self.end.to_le_bytes(), &[self.length, self.witness.len() as u8], self.witness].concat();
+        bytes.resize(19, 0);
+        bytes
+    }
+}
+
 /// What a search is asked, but for its plan buffer.
 pub struct Asked<'a> {
     pub rules: &'a str,
@@ -59,6 +115,16 @@ impl Asked<'_> {
     /// An outcome that has no floor.
     pub fn gives(&self, outcome: u64, plan: &[u8], cost: u64, steps: u64) {
         self.both_give(outcome, plan, cost, steps, 0);
+    }
+
+    /// The explanation of a proposal, in buffers of several lengths: whole, with zeros after it, or where the buffer is
+    /// too short for it zeros alone. The outcome is the same.
+    pub fn explains(&self, moves: &[u8], outcome: u64, why: Why) {
+        for out_length in [19, 20, 64, 0, 1, 18] {
+            let mut buffer = if out_length < 19 { vec![] } else { why.bytes() };
+            buffer.resize(out_length, 0);
+            gives(&self.call(32).for_proposal(moves, out_length).expect("a search"), outcome, buffer);
+        }
     }
 
     /// Outcome 18 with this plan and this floor. "The steps of 18 are the ceiling".

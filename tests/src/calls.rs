@@ -23,6 +23,7 @@ pub enum Call {
     CheckTable { rules: Vec<u8>, table: Vec<u8>, reach: usize },
     Macro { rules: Vec<u8>, moves: Vec<u8>, out_length: usize },
     SearchFloor { rules: Vec<u8>, table: Vec<u8>, reach: usize, query: Query, plan_length: usize },
+    Explain { rules: Vec<u8>, table: Vec<u8>, reach: usize, query: Query, moves: Vec<u8>, out_length: usize },
 }
 
 /// The number that an entry gives, and the whole buffer that it was lent for writing. A floor is a number without parts: it tells no outcome.
@@ -65,7 +66,7 @@ impl Answer {
 }
 
 /// The names of the C entries, in the order of `Call::entry`.
-pub const ENTRIES: [&str; 8] = ["search", "read", "rewrite", "table_size", "build_table", "check_table", "macro", "search_floor"];
+pub const ENTRIES: [&str; 9] = ["search", "read", "rewrite", "table_size", "build_table", "check_table", "macro", "search_floor", "explain"];
 
 impl Call {
     pub fn entry(&self) -> usize {
@@ -78,6 +79,7 @@ impl Call {
             Call::CheckTable { .. } => 5,
             Call::Macro { .. } => 6,
             Call::SearchFloor { .. } => 7,
+            Call::Explain { .. } => 8,
         }
     }
 
@@ -92,6 +94,17 @@ impl Call {
         }
     }
 
+    /// The explanation of a proposal for the same query; nothing for a call that is no search.
+    pub fn for_proposal(&self, moves: &[u8], out_length: usize) -> Option<Call> {
+        match self {
+            Call::Search { rules, table, reach, query, .. } => {
+                let (rules, table, query) = (rules.clone(), table.clone(), query.clone());
+                Some(Call::Explain { rules, table, reach: *reach, query, moves: moves.to_vec(), out_length })
+            }
+            _ => None,
+        }
+    }
+
     /// The rule file that it is given.
     pub fn text(&self) -> &[u8] {
         match self {
@@ -101,8 +114,16 @@ impl Call {
             | Call::BuildTable { rules, .. }
             | Call::CheckTable { rules, .. }
             | Call::Macro { rules, .. }
-            | Call::SearchFloor { rules, .. } => rules,
+            | Call::SearchFloor { rules, .. }
+            | Call::Explain { rules, .. } => rules,
         }
+    }
+}
+
+impl fmt::Display for Query {
+    fn fmt(&self, f: &mut fmt::Formatter) -> fmt::Result {
+        let Query { start, goal, max_moves, max_cost, step_limit } = self;
+        write!(f, "Query {{ start: vec!{start:?}, goal: vec!{goal:?}, max_moves: {max_moves}, max_cost: {max_cost}, step_limit: {step_limit} }}")
     }
 }
 
@@ -110,16 +131,10 @@ impl fmt::Display for Call {
     fn fmt(&self, f: &mut fmt::Formatter) -> fmt::Result {
         let text = format!("b\"{}\".to_vec()", self.text().escape_ascii());
         match self {
-            Call::Search { table, reach, query, plan_length, .. } | Call::SearchFloor { table, reach, query, plan_length, .. } => write!(
-                f,
-                "Call::{} {{ rules: {text}, table: vec!{table:?}, reach: {reach}, query: Query {{ start: vec!{:?}, goal: vec!{:?}, max_moves: {}, max_cost: {}, step_limit: {} }}, plan_length: {plan_length} }}",
-                if matches!(self, Call::Search { .. }) { "Search" } else { "SearchFloor" },
-                query.start,
-                query.goal,
-                query.max_moves,
-                query.max_cost,
-                query.step_limit
-            ),
+            Call::Search { table, reach, query, plan_length, .. } | Call::SearchFloor { table, reach, query, plan_length, .. } => {
+                let entry = if matches!(self, Call::Search { .. }) { "Search" } else { "SearchFloor" };
+                write!(f, "Call::{entry} {{ rules: {text}, table: vec!{table:?}, reach: {reach}, query: {query}, plan_length: {plan_length} }}")
+            }
             Call::Read { .. } => write!(f, "Call::Read {{ text: {text} }}"),
             Call::Rewrite { out_length, .. } => write!(f, "Call::Rewrite {{ text: {text}, out_length: {out_length} }}"),
             Call::TableSize { reach, .. } => write!(f, "Call::TableSize {{ rules: {text}, reach: {reach} }}"),
@@ -128,6 +143,10 @@ impl fmt::Display for Call {
             }
             Call::CheckTable { table, reach, .. } => write!(f, "Call::CheckTable {{ rules: {text}, table: vec!{table:?}, reach: {reach} }}"),
             Call::Macro { moves, out_length, .. } => write!(f, "Call::Macro {{ rules: {text}, moves: vec!{moves:?}, out_length: {out_length} }}"),
+            Call::Explain { table, reach, query, moves, out_length, .. } => write!(
+                f,
+                "Call::Explain {{ rules: {text}, table: vec!{table:?}, reach: {reach}, query: {query}, moves: vec!{moves:?}, out_length: {out_length} }}"
+            ),
         }
     }
 }

@@ -21,6 +21,7 @@ const OUTCOMES: [&[usize]; ENTRIES.len()] = [
     &[0, 1, 2, 3, 4, 5, 6, 14],
     &[0, 1, 2, 3, 4, 8, 11, 13, 17],
     OF_SEARCHES,
+    &[0, 1, 2, 3, 4, 5, 6, 9, 10, 11, 13, 14, 15, 16, 18],
 ];
 
 /// The outcomes, from 0.

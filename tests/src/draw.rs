@@ -1,4 +1,4 @@
-//! Rule sets, tables and queries drawn at random. Rules are drawn so that sequences overlap, commute, undo each other and cost differently: much is prunable, and plans tie.
+//! Rule sets, tables, queries and proposals drawn at random. Rules are drawn so that sequences overlap, commute, undo each other and cost differently: much is prunable, and plans tie.
 //! Many sets have positions of size 1, and some have no others.
 
 use crate::calls::Query;
@@ -286,4 +286,55 @@ pub fn spoilt(random: &mut Random, entries: &[u16]) -> Vec<u16> {
         }
     }
     entries
+}
+
+/// So many moves, each any rule's number.
+fn any_moves(random: &mut Random, rules: usize, length: usize) -> Vec<u8> {
+    (0..length).map(|_| random.from_to(1, rules) as u8).collect()
+}
+
+/// A proposal: one of some sequences as it is, in another order, cut, longer, with a move exchanged, doubled or put in;
+/// or any moves, some of them more than a plan can have.
+pub fn proposal(random: &mut Random, rules: usize, known: &[&[u8]]) -> Vec<u8> {
+    let mut moves = random.pick(known).to_vec();
+    let (at, other) = (random.below(moves.len().max(1)), random.below(moves.len().max(1)));
+    match random.below(12) {
+        0..=2 => {}
+        3 if !moves.is_empty() => moves.swap(at, other),
+        4 => moves.reverse(),
+        5 => moves.truncate(at),
+        6 => moves.extend(any_moves(random, rules, 1)),
+        7 => moves.extend(any_moves(random, rules, 3)),
+        8 if !moves.is_empty() => moves[at] = random.from_to(1, rules) as u8,
+        9 if !moves.is_empty() => moves.insert(at, moves[at]),
+        10 => moves.insert(at, random.from_to(1, rules) as u8),
+        _ => {
+            let length = random.pick(&[0, 1, 2, 2, 3, 3, 4, 5, 8, 32, 33, 40, 256, 258, 300]);
+            moves = any_moves(random, rules, length);
+        }
+    }
+    moves
+}
+
+/// A long proposal: unpruned moves, as many as are hit upon, most often more than a plan can have; and then any.
+pub fn long_proposal(random: &mut Random, rules: usize, unpruned: impl Fn(&[u8]) -> bool) -> Vec<u8> {
+    let mut moves = vec![];
+    let length = if random.chance(70) { random.from_to(32, 50) } else { random.from_to(254, 300) };
+    for _ in 0..8 * length {
+        moves.push(random.from_to(1, rules) as u8);
+        // no segment has more than three moves
+        if moves.len() > length || !unpruned(&moves[moves.len().saturating_sub(3)..]) {
+            moves.pop();
+        }
+    }
+    let more = random.from_to(1, 12);
+    moves.extend(any_moves(random, rules, more));
+    moves
+}
+
+/// The proposal with a number that is no rule's, put in anywhere or at the end.
+pub fn with_unknown_move(random: &mut Random, rules: usize, mut moves: Vec<u8>) -> Vec<u8> {
+    let at = random.below(2 * moves.len() + 1).min(moves.len());
+    moves.insert(at, random.pick(&[0, rules as u8 + 1, 32, 255]));
+    moves
 }

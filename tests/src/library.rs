@@ -43,6 +43,24 @@ extern "C" {
     fn planner_build_table(rules: *const u8, rules_length: usize, table: *mut u8, table_length: usize, reach: usize) -> u64;
     fn planner_check_table(rules: *const u8, rules_length: usize, table: *const u8, table_length: usize, reach: usize) -> u64;
     fn planner_macro(rules: *const u8, rules_length: usize, moves: *const u8, moves_length: usize, out: *mut u8, out_length: usize) -> u8;
+    fn planner_explain(
+        rules: *const u8,
+        rules_length: usize,
+        table: *const u8,
+        table_length: usize,
+        start: *const u8,
+        start_length: usize,
+        goal: *const u8,
+        goal_length: usize,
+        moves: *const u8,
+        moves_length: usize,
+        out: *mut u8,
+        out_length: usize,
+        reach: usize,
+        max_moves: usize,
+        max_cost: u16,
+        step_limit: u32,
+    ) -> u8;
 }
 
 /// Guard bytes on either side of a buffer.
@@ -122,6 +140,9 @@ fn lends_empty(call: &Call) -> bool {
         Call::BuildTable { table_length, .. } => *table_length == 0,
         Call::CheckTable { table, .. } => table.is_empty(),
         Call::Macro { moves, out_length, .. } => moves.is_empty() || *out_length == 0,
+        Call::Explain { table, query, moves, out_length, .. } => {
+            table.is_empty() || query.start.is_empty() || query.goal.is_empty() || moves.is_empty() || *out_length == 0
+        }
     };
     another || call.text().is_empty()
 }
@@ -186,6 +207,35 @@ fn made(call: &Call, null: bool) -> Answer {
             let (mut sequence, mut out) = (Lent::reading(moves), Lent::writing(*out_length));
             let number = unsafe { planner_macro(from, text.len(), sequence.pointer(null), moves.len(), out.pointer(null), *out_length) };
             sequence.unchanged(moves);
+            Answer { number: number.into(), buffer: out.written() }
+        }
+        Call::Explain { table, reach, query, moves, out_length, .. } => {
+            let (mut marks, mut start, mut goal) = (Lent::reading(table), Lent::reading(&query.start), Lent::reading(&query.goal));
+            let (mut proposal, mut out) = (Lent::reading(moves), Lent::writing(*out_length));
+            let number = unsafe {
+                planner_explain(
+                    from,
+                    text.len(),
+                    marks.pointer(null),
+                    table.len(),
+                    start.pointer(null),
+                    query.start.len(),
+                    goal.pointer(null),
+                    query.goal.len(),
+                    proposal.pointer(null),
+                    moves.len(),
+                    out.pointer(null),
+                    *out_length,
+                    *reach,
+                    query.max_moves,
+                    query.max_cost,
+                    query.step_limit,
+                )
+            };
+            marks.unchanged(table);
+            start.unchanged(&query.start);
+            goal.unchanged(&query.goal);
+            proposal.unchanged(moves);
             Answer { number: number.into(), buffer: out.written() }
         }
     };

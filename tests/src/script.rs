@@ -54,6 +54,17 @@ pub fn file_calls(script: &str) -> Vec<Call> {
     calls
 }
 
+/// The query of a line: start, goal and bounds from its third item on.
+fn query<'a>(item: &impl Fn(usize) -> &'a str) -> Query {
+    Query {
+        start: byte_list(item(2)),
+        goal: byte_list(item(3)),
+        max_moves: number(item(4)) as usize,
+        max_cost: u16::try_from(number(item(5))).unwrap_or(u16::MAX),
+        step_limit: u32::try_from(number(item(6))).unwrap_or(u32::MAX),
+    }
+}
+
 /// The calls of a script of macros, tables or queries. A table that is built there is the library's, and its build is among the calls. The longest plan buffer is 4,096 bytes, as in the scripts.
 pub fn calls(script: &str) -> Vec<Call> {
     let mut calls = vec![];
@@ -97,15 +108,15 @@ pub fn calls(script: &str) -> Vec<Call> {
                 calls.push(Call::CheckTable { rules: rules.clone(), table: table.clone(), reach: number(item(1)) as usize });
             }
             ("q" | "k", Some(rules)) => {
-                let query = Query {
-                    start: byte_list(item(2)),
-                    goal: byte_list(item(3)),
-                    max_moves: number(item(4)) as usize,
-                    max_cost: u16::try_from(number(item(5))).unwrap_or(u16::MAX),
-                    step_limit: u32::try_from(number(item(6))).unwrap_or(u32::MAX),
-                };
                 let plan_length = number(item(7)).min(4096) as usize;
-                calls.push(Call::Search { rules: rules.clone(), table: table.clone(), reach: number(item(1)) as usize, query, plan_length });
+                let (reach, query) = (number(item(1)) as usize, query(&item));
+                calls.push(Call::Search { rules: rules.clone(), table: table.clone(), reach, query, plan_length });
+            }
+            ("x", Some(rules)) => {
+                let (reach, query, moves) = (number(item(1)) as usize, query(&item), byte_list(item(7)));
+                let explain =
+                    |out_length| Call::Explain { rules: rules.clone(), table: table.clone(), reach, query: query.clone(), moves: moves.clone(), out_length };
+                calls.extend([19, 25, 18, 0].map(explain));
             }
             _ => {}
         }

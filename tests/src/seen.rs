@@ -2,10 +2,11 @@
 
 use crate::calls::{Answer, Query};
 use crate::damage::changed_item;
+use crate::oracle::explain::{marked_segments, Explained, Reason};
 use crate::oracle::model::{Rule, Set};
 use crate::oracle::redundancy::Redundancy;
 use crate::oracle::search::{meets, plan_among, plan_looked_at, Ran};
-use crate::oracle::sequences::sequences;
+use crate::oracle::sequences::{index, sequences};
 use crate::oracle::symbolic::Run;
 use crate::oracle::table::{marked, KEPT};
 use crate::oracle::touched::Touched;
@@ -129,6 +130,83 @@ pub struct Seen {
     pub singles_open: u64,
     pub singles_held: u64,
     pub singles_limited: u64,
+    /// explanations by their reason, beside a plan (0) and beside none (15)
+    pub over_bound: u64,
+    pub over_bound_15: u64,
+    pub cannot_run: u64,
+    pub cannot_run_15: u64,
+    pub passes_cost: u64,
+    pub passes_cost_15: u64,
+    pub off_goal: u64,
+    pub off_goal_15: u64,
+    pub dearer: u64,
+    pub later: u64,
+    pub is_plan: u64,
+    /// of a proposal without moves, and of one that is the plan; of several moves that cost nothing
+    pub empty_proposals: u64,
+    pub empty_is_plan: u64,
+    pub costless_proposals: u64,
+    /// where a wrong planner gives another reason or place: reasons tried move by move; the length last, or in eight bits;
+    /// the cost bound passed when it is met; the last move that passes it; the goal met on the way
+    pub reasons_by_move: u64,
+    pub reasons_length_last: u64,
+    pub reasons_length_in_8_bits: u64,
+    pub reasons_cost_met: u64,
+    pub reasons_cost_last: u64,
+    pub reasons_goal_met: u64,
+    /// the highest wrong position; the first position; the place among those of the goal that are not open
+    pub positions_highest: u64,
+    pub positions_first: u64,
+    pub positions_not_open: u64,
+    /// marked segments of one, two and three moves; beside 15, and beside a reason that needs the plan
+    pub segments_of_1: u64,
+    pub segments_of_2: u64,
+    pub segments_of_3: u64,
+    pub segments_15: u64,
+    pub segments_of_plans: u64,
+    /// that end behind the first failing move, behind the move that passes the cost bound, beyond the move bound, beyond
+    /// 32 moves, beyond 255
+    pub segments_behind_failing: u64,
+    pub segments_behind_cost: u64,
+    pub segments_beyond_bound: u64,
+    pub segments_beyond_32: u64,
+    pub segments_beyond_255: u64,
+    /// where another one is longer and ends with it; starts sooner and ends later; is shorter and ends later
+    pub segments_at_equal_end: u64,
+    pub segments_starting_later: u64,
+    pub segments_not_shortest: u64,
+    /// with a witness that is not the builder's, or that is marked too; that is empty, or has three rules
+    pub witnesses_of_others: u64,
+    pub witnesses_marked: u64,
+    pub witnesses_empty: u64,
+    pub witnesses_of_3: u64,
+    /// outcomes that stand alone: 18 where the proposal is the plan shown; 16 or 18 with a marked segment, or over the
+    /// move bound, or where it cannot be run
+    pub alone_plan: u64,
+    pub alone_marked: u64,
+    pub alone_over_bound: u64,
+    pub alone_cannot_run: u64,
+    /// 13 where the search gives 16 or 18, or 15; over the move bound; for a number beyond 32 moves alone. 14 with such a
+    /// number
+    pub unknown_at_limit: u64,
+    pub unknown_15: u64,
+    pub unknown_over_bound: u64,
+    pub unknown_beyond_32: u64,
+    pub unknown_withheld: u64,
+    /// reasons that a buffer is too short for
+    pub short_explanations: u64,
+}
+
+/// A proposal with what it is judged by: its query, the table that is brought and the builder's, and what the search
+/// answers.
+pub struct Proposed<'a> {
+    pub set: &'a Set,
+    pub query: &'a Query,
+    pub reach: usize,
+    pub entries: &'a [u16],
+    pub built: &'a [u16],
+    pub searched: &'a Answer,
+    pub moves: &'a [u8],
 }
 
 /// The positions of size 1.
@@ -357,5 +435,115 @@ impl Seen {
         self.floors_of_pruned += is_one(true, true, false);
         self.floors_of_longer += is_one(true, false, true);
         self.floors_of_denied += is_one(false, true, true);
+    }
+
+    /// Notes what was explained of a proposal, in a buffer of so many bytes.
+    pub fn explained(&mut self, proposed: &Proposed, explained: &Explained, out_length: usize) {
+        match &explained.reason {
+            Some(reason) => {
+                self.reason(proposed, reason, explained.outcome == 15);
+                self.segment(proposed, explained);
+                self.short_explanations += u64::from(out_length < 19);
+            }
+            None => self.alone(proposed, explained.outcome),
+        }
+    }
+
+    fn reason(&mut self, proposed: &Proposed, reason: &Reason, no_plan: bool) {
+        let count = match (reason, no_plan) {
+            (Reason::OverMoveBound, false) => &mut self.over_bound,
+            (Reason::OverMoveBound, true) => &mut self.over_bound_15,
+            (Reason::CannotRun { .. }, false) => &mut self.cannot_run,
+            (Reason::CannotRun { .. }, true) => &mut self.cannot_run_15,
+            (Reason::PassesCostBound { .. }, false) => &mut self.passes_cost,
+            (Reason::PassesCostBound { .. }, true) => &mut self.passes_cost_15,
+            (Reason::OffGoal { .. }, false) => &mut self.off_goal,
+            (Reason::OffGoal { .. }, true) => &mut self.off_goal_15,
+            (Reason::Dearer { .. }, _) => &mut self.dearer,
+            (Reason::Later, _) => &mut self.later,
+            (Reason::IsPlan, _) => &mut self.is_plan,
+        };
+        *count += 1;
+        let &Proposed { set, query, moves, .. } = proposed;
+        let (cost, most) = (set.cost(moves), u32::from(query.max_cost));
+        let met = |fronts: usize| (1..=fronts).any(|front| set.cost(&moves[..front]) == most);
+        match *reason {
+            Reason::OverMoveBound => {
+                self.reasons_length_last += u64::from(cost > most || set.run(moves, &query.start).is_none());
+                self.reasons_length_in_8_bits += u64::from(moves.len() % 256 <= query.max_moves);
+            }
+            Reason::CannotRun { first } => self.reasons_by_move += u64::from(set.cost(&moves[..first - 1]) > most),
+            Reason::PassesCostBound { first } => {
+                self.reasons_cost_met += u64::from(met(first - 1));
+                self.reasons_cost_last += u64::from(first < moves.len());
+            }
+            Reason::OffGoal { lowest } => self.off_goal_at(proposed, lowest),
+            Reason::Dearer { .. } | Reason::Later | Reason::IsPlan => {
+                self.reasons_cost_met += u64::from(met(moves.len()));
+                self.costless_proposals += u64::from(moves.len() > 1 && cost == 0);
+                self.empty_is_plan += u64::from(moves.is_empty());
+            }
+        }
+        self.empty_proposals += u64::from(moves.is_empty());
+    }
+
+    fn off_goal_at(&mut self, proposed: &Proposed, lowest: usize) {
+        let &Proposed { set, query, moves, .. } = proposed;
+        let ends_in_goal = |front: usize| set.run(&moves[..front], &query.start).is_some_and(|state| meets(&query.goal, &state));
+        self.reasons_goal_met += u64::from((0..moves.len()).any(ends_in_goal));
+        let end = set.run(moves, &query.start).expect("a proposal that can be run");
+        self.positions_highest += u64::from(!meets(&query.goal[lowest..], &end[lowest..]));
+        self.positions_first += u64::from(lowest > 1);
+        self.positions_not_open += u64::from(query.goal[..lowest].contains(&255));
+    }
+
+    fn segment(&mut self, proposed: &Proposed, explained: &Explained) {
+        let &Proposed { set, query, reach, entries, built, moves, .. } = proposed;
+        let Some(segment) = &explained.segment else {
+            return;
+        };
+        let (end, length, from) = (segment.end, segment.length, segment.end - segment.length);
+        *[&mut self.segments_of_1, &mut self.segments_of_2, &mut self.segments_of_3][length - 1] += 1;
+        self.segments_15 += u64::from(explained.outcome == 15);
+        match explained.reason {
+            Some(Reason::CannotRun { first }) => self.segments_behind_failing += u64::from(end > first),
+            Some(Reason::PassesCostBound { first }) => self.segments_behind_cost += u64::from(end > first),
+            Some(Reason::Dearer { .. } | Reason::Later) => self.segments_of_plans += 1,
+            _ => {}
+        }
+        self.segments_beyond_bound += u64::from(end > query.max_moves);
+        self.segments_beyond_32 += u64::from(end > 32);
+        self.segments_beyond_255 += u64::from(end > 255);
+        let others = marked_segments(set.rules.len(), reach, entries, moves);
+        self.segments_at_equal_end += u64::from(others.iter().any(|&(of, long)| of == end && long > length));
+        self.segments_starting_later += u64::from(others.iter().any(|&(of, long)| of > end && of - long < from));
+        self.segments_not_shortest += u64::from(others.iter().any(|&(_, long)| long < length));
+        let index = index(set.rules.len(), &moves[from..end]);
+        self.witnesses_of_others += u64::from(entries[index] != built[index]);
+        self.witnesses_marked += u64::from(entries[entries[index] as usize] != KEPT);
+        self.witnesses_empty += u64::from(segment.witness.is_empty());
+        self.witnesses_of_3 += u64::from(segment.witness.len() == 3);
+    }
+
+    fn alone(&mut self, proposed: &Proposed, outcome: u8) {
+        let &Proposed { set, query, reach, entries, searched, moves, .. } = proposed;
+        let unknown = |moves: &[u8]| moves.iter().any(|&number| number == 0 || number as usize > set.rules.len());
+        let over_bound = moves.len() > query.max_moves;
+        match outcome {
+            16 | 18 => {
+                self.alone_plan += u64::from(outcome == 18 && *moves == searched.buffer[..searched.length()]);
+                self.alone_marked += u64::from(!marked_segments(set.rules.len(), reach, entries, moves).is_empty());
+                self.alone_over_bound += u64::from(over_bound);
+                self.alone_cannot_run += u64::from(!over_bound && set.run(moves, &query.start).is_none());
+            }
+            13 => {
+                self.unknown_at_limit += u64::from([16, 18].contains(&searched.outcome()));
+                self.unknown_15 += u64::from(searched.outcome() == 15);
+                self.unknown_over_bound += u64::from(over_bound);
+                self.unknown_beyond_32 += u64::from(moves.len() > 32 && !unknown(&moves[..32]));
+            }
+            14 => self.unknown_withheld += u64::from(unknown(moves)),
+            _ => {}
+        }
     }
 }

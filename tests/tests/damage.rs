@@ -46,15 +46,20 @@ fn damaged(text: &[u8], at: usize) -> Vec<Vec<u8>> {
 
 /// One of the calls on a rule file, by turns; what it leaves in its buffer is compared too.
 fn call(text: Vec<u8>, turn: usize) -> Call {
-    match turn % 6 {
+    match turn % 7 {
         0 => Call::Rewrite { out_length: text.len(), text },
         1 => Call::TableSize { rules: text, reach: 1 },
         2 => Call::BuildTable { rules: text, table_length: turn % 11, reach: 1 },
         3 => Call::CheckTable { rules: text, table: vec![255; turn % 11], reach: 1 },
         4 => Call::Macro { rules: text, moves: vec![1], out_length: 38 },
-        _ => {
+        kind => {
             let query = Query { start: vec![0; turn % 4], goal: vec![255; turn % 4], max_moves: 2, max_cost: 9, step_limit: 99 };
-            Call::Search { rules: text, table: vec![255; 4], reach: 1, query, plan_length: turn % 9 }
+            let table = vec![255; 4];
+            if kind == 5 {
+                Call::Search { rules: text, table, reach: 1, query, plan_length: turn % 9 }
+            } else {
+                Call::Explain { rules: text, table, reach: 1, query, moves: vec![1], out_length: 15 + turn % 9 }
+            }
         }
     }
 }

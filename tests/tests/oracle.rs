@@ -1,19 +1,20 @@
 //! The oracle against itself: its two ways to redundancy, to the positions that a sequence reads and writes, to the plan, to the steps and to the walk agree, a macro does what
-//! its rules do in every state, of two rules with the same lines the later one may be marked with the earlier exactly if it is dearer, and no plan is below a floor. Lines
-//! have one form only. Of the sets that are drawn some have positions of size 1.
+//! its rules do in every state, of two rules with the same lines the later one may be marked with the earlier exactly if it is dearer, no plan is below a floor, and each
+//! explanation is true and the first that is. Lines have one form only. Of the sets that are drawn some have positions of size 1.
 
-use planner_tests::calls::Query;
+use planner_tests::calls::{Call, Query};
 use planner_tests::draw;
+use planner_tests::oracle::explain::{Reason, Segment};
 use planner_tests::oracle::model::{Entry, Rule, Set, State};
 use planner_tests::oracle::redundancy::Redundancy;
 use planner_tests::oracle::search::{
-    all_within, floor, plan_among, plan_by_states, plan_looked_at, steps_among, steps_up_to, visited_among, visited_up_to, Ran,
+    all_within, floor, meets, plan_among, plan_by_states, plan_looked_at, steps_among, steps_up_to, unpruned, visited_among, visited_up_to, Ran,
 };
 use planner_tests::oracle::sequences::{count, index, sequences};
 use planner_tests::oracle::symbolic::Run;
-use planner_tests::oracle::table::{accepted, built, KEPT};
+use planner_tests::oracle::table::{accepted, built, bytes, KEPT};
 use planner_tests::oracle::touched::Touched;
-use planner_tests::oracle::{file, writer};
+use planner_tests::oracle::{file, writer, Judged};
 use planner_tests::random::{seed, Random};
 use std::io::Write;
 
@@ -224,4 +225,132 @@ fn both_ways_to_the_visits_agree_and_no_plan_is_below_the_floor() {
         }
     });
     assert!(met.iter().all(|&count| count >= 100), "too few: {met:?}");
+}
+
+/// The reason by another way: move by move, and then by its place among all sequences within the bounds. They are in
+/// document 01's order, so that the plan is the first of the cheapest that end in the goal.
+fn reason_by_list(set: &Set, query: &Query, all: &[Ran], moves: &[u8]) -> Reason {
+    if moves.len() > query.max_moves {
+        return Reason::OverMoveBound;
+    }
+    let (mut state, mut cost, mut passes) = (query.start.clone(), 0, None);
+    for (place, &number) in moves.iter().enumerate() {
+        if !set.rule(number).runs(&state) {
+            return Reason::CannotRun { first: place + 1 };
+        }
+        state = set.rule(number).after(&state);
+        cost += set.rule(number).cost;
+        passes = passes.or((cost > u32::from(query.max_cost)).then_some(place + 1));
+    }
+    if let Some(first) = passes {
+        return Reason::PassesCostBound { first };
+    }
+    // "can be run from the start within both bounds" exactly if it is listed
+    let own = all.iter().position(|ran| ran.sequence == moves).expect("a sequence within the bounds");
+    if let Some(wrong) = (0..state.len()).find(|&i| query.goal[i] != 255 && query.goal[i] != state[i]) {
+        return Reason::OffGoal { lowest: wrong + 1 };
+    }
+    let mut plans: Vec<usize> = (0..all.len()).filter(|&place| meets(&query.goal, &all[place].state)).collect();
+    plans.sort_by_key(|&place| (all[place].cost, place));
+    match (own, plans[0]) {
+        (own, first) if own == first => Reason::IsPlan,
+        (own, first) if all[own].cost == all[first].cost => Reason::Later,
+        (own, first) => Reason::Dearer { cost: all[own].cost, plan: all[first].cost },
+    }
+}
+
+/// Whether a proposal has just this segment, or none: of all ways to split it in three, with what is marked in the
+/// middle, none ends sooner, and none that ends there is shorter.
+fn has_segment(rules: usize, reach: usize, table: &[u16], moves: &[u8], segment: Option<&Segment>) {
+    let all = sequences(rules, reach);
+    let entry = |middle: &[u8]| all.iter().position(|sequence| sequence == middle).map_or(KEPT, |index| table[index]);
+    let splits = (0..moves.len()).flat_map(|from| (from + 1..=moves.len()).map(move |to| (from, to)));
+    let marked: Vec<(usize, usize)> = splits.filter(|&(from, to)| entry(&moves[from..to]) != KEPT).collect();
+    assert_eq!(segment.is_none(), marked.is_empty(), "{moves:?}");
+    assert_eq!(segment.is_none(), unpruned(rules, reach, table, moves), "{moves:?}");
+    let Some(Segment { end, length, witness }) = segment else {
+        return;
+    };
+    assert!(marked.contains(&(end - length, *end)), "{moves:?}");
+    assert!(marked.iter().all(|&(from, to)| to > *end || to == *end && to - from >= *length), "{moves:?}");
+    assert_eq!(all[entry(&moves[end - length..*end]) as usize], *witness, "{moves:?}");
+}
+
+/// Whether a sequence may be marked with another: "B costs no less than A, every yard that admits B admits A, and from
+/// each of those yards both lead to the same yard", and A is earlier.
+fn may_be_marked_with(set: &Set, b: &[u8], a: &[u8]) -> bool {
+    let same = |state: &State| set.run(b, state).is_none_or(|end| set.run(a, state) == Some(end));
+    set.cost(b) >= set.cost(a) && set.states().iter().all(same) && (a.len(), a) < (b.len(), b)
+}
+
+#[test]
+fn each_explanation_is_true_and_the_first() {
+    // by reason, from 1; with a segment, with one of an accepted table that is not the builder's; 16 or 18; 13
+    let mut met = [0; 11];
+    drawn("explanations", 2500, 100, 5, |random, set| {
+        let read = Ok(set.clone());
+        let (mut judged, rules) = (Judged::new(&read), set.rules.len());
+        let reach = random.from_to(1, if rules < 4 { 3 } else { 2 });
+        let redundancy = Redundancy::new(set, reach);
+        let some = draw::some_marks(random, &built(&redundancy));
+        let others = draw::other_witnesses(random, &redundancy, &some);
+        let table = random.pick(&[built(&redundancy), some, others]);
+        let max_cost = random.pick(&[0, 2, 5, 9, 300, u16::MAX]);
+        let mut query = Query { max_moves: random.from_to(0, 5), max_cost, ..draw::query(random, set) };
+        let Some(all) = all_within(set, &query, 2_000) else {
+            return;
+        };
+        if random.chance(60) {
+            query.goal = random.pick(&all).state.clone();
+            draw::open(random, &mut query.goal);
+        }
+        query.step_limit = if random.chance(80) { u32::MAX } else { random.below(all.len()) as u32 };
+        let search = Call::Search { rules: writer::write(set), table: bytes(&table), reach, query: query.clone(), plan_length: 32 };
+        let searched = judged.expected(&search);
+        let plan = &searched.buffer[..searched.length()];
+        for _ in 0..8 {
+            let any = random.pick(&all).sequence;
+            let moves = draw::proposal(random, rules, &[plan, &any]);
+            let explained = judged.explained(&search.for_proposal(&moves, 19).expect("a search")).expect("an explanation");
+            assert_eq!(explained.outcome as usize, searched.outcome(), "{search} {moves:?}");
+            // "a sequence gets "it is the plan" exactly if the search gives it with outcome 0"
+            assert_eq!(explained.reason == Some(Reason::IsPlan), searched.outcome() == 0 && moves == plan, "{search} {moves:?}");
+            if [16, 18].contains(&searched.outcome()) {
+                assert_eq!((explained.reason, explained.segment), (None, None), "{search} {moves:?}");
+                met[9] += 1;
+            } else {
+                let reason = explained.reason.expect("a reason");
+                assert_eq!(reason, reason_by_list(set, &query, &all, &moves), "{search} {moves:?}");
+                let needs_plan = matches!(reason, Reason::Dearer { .. } | Reason::Later | Reason::IsPlan);
+                assert!(searched.outcome() == 0 || !needs_plan, "{search} {moves:?}");
+                has_segment(rules, reach, &table, &moves, explained.segment.as_ref());
+                // the plan is undropped
+                assert!(reason != Reason::IsPlan || explained.segment.is_none(), "{search} {moves:?}");
+                if let Some(Segment { end, length, witness }) = &explained.segment {
+                    assert!(may_be_marked_with(set, &moves[end - length..*end], witness), "{search} {moves:?}");
+                }
+                met[number(&reason) - 1] += 1;
+                met[7] += usize::from(explained.segment.is_some());
+                met[8] += usize::from(explained.segment.is_some() && table != built(&redundancy));
+            }
+            let unknown = draw::with_unknown_move(random, rules, moves);
+            let explained = judged.explained(&search.for_proposal(&unknown, 19).expect("a search")).expect("an explanation");
+            assert_eq!((explained.outcome, explained.reason, explained.segment), (13, None, None), "{search} {unknown:?}");
+            met[10] += 1;
+        }
+    });
+    assert!(met.iter().all(|&count| count >= 100), "too few: {met:?}");
+}
+
+/// The reason's number, in document 02's order from 1.
+fn number(reason: &Reason) -> usize {
+    match reason {
+        Reason::OverMoveBound => 1,
+        Reason::CannotRun { .. } => 2,
+        Reason::PassesCostBound { .. } => 3,
+        Reason::OffGoal { .. } => 4,
+        Reason::Dearer { .. } => 5,
+        Reason::Later => 6,
+        Reason::IsPlan => 7,
+    }
 }

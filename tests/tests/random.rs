@@ -1,4 +1,4 @@
-//! Rule sets, tables, queries, sequences and damaged texts drawn at random: every answer, buffer and refusal against the oracle.
+//! Rule sets, tables, queries, proposals, sequences and damaged texts drawn at random: every answer, buffer and refusal against the oracle.
 //! The seed is PLANNER_TEST_SEED, else the clock's, and is printed. A run in which too little happened fails. There are two runs, side by side.
 
 use planner_tests::calls::{Answer, Call, Query};
@@ -6,19 +6,24 @@ use planner_tests::compare::{compare, compare_in, Tally};
 use planner_tests::damage;
 use planner_tests::draw;
 use planner_tests::library;
+use planner_tests::oracle::explain::marked_segments;
 use planner_tests::oracle::model::{Entry, Rule, Set};
-use planner_tests::oracle::search::{all_within, meets, plan_by_states, steps_up_to, unpruned, visited_among};
-use planner_tests::oracle::sequences::count;
-use planner_tests::oracle::table::{built, bytes, entries as entries_of};
+use planner_tests::oracle::search::{all_within, meets, plan_among, plan_by_states, steps_up_to, unpruned, visited_among};
+use planner_tests::oracle::sequences::{count, sequences};
+use planner_tests::oracle::table::{built, bytes, entries as entries_of, marked};
 use planner_tests::oracle::touched::Touched;
 use planner_tests::oracle::{file, writer, Judged};
 use planner_tests::random::{seed, Random};
-use planner_tests::seen::Seen;
+use planner_tests::seen::{Proposed, Seen};
 use planner_tests::stack::{within, TEST_STACK};
 use std::io::Write;
 
 /// The rule sets of one run.
 const SETS: usize = 1000;
+
+/// The queries of one rule set for which proposals are explained, and the proposals for each.
+const QUERIES: usize = 3;
+const PROPOSALS: usize = 5;
 
 /// The most sequences that a query may have to list, by the oracle or by the library.
 const LISTED: usize = 2_500;
@@ -97,6 +102,10 @@ impl Run {
             let entries = self.table(&mut judged, reach, &entries);
             self.search_above_limit(&drawn, &mut judged, reach, &entries);
         }
+        for _ in 0..QUERIES {
+            let brought = self.table(&mut judged, reach, &entries);
+            self.explain(&drawn, &mut judged, reach, &brought, &entries);
+        }
     }
 
     fn reach(&mut self) -> usize {
@@ -122,15 +131,20 @@ impl Run {
             self.seen.same_lines_read += u64::from(brought);
             let length = self.random.pick(&[0, 1, 38, 400, text.len()]);
             let (rules, reach) = (text.clone(), self.random.from_to(0, 2));
-            let call = match self.random.below(6) {
+            let call = match self.random.below(7) {
                 0 => Call::Rewrite { text, out_length: length },
                 1 => Call::TableSize { rules, reach },
                 2 => Call::BuildTable { rules, table_length: length, reach },
                 3 => Call::CheckTable { rules, table: vec![255; length], reach },
                 4 => Call::Macro { rules, moves: vec![1; length % 5], out_length: length },
-                _ => {
+                kind => {
                     let query = Query { step_limit: 1000, max_moves: self.random.below(40), ..draw::query(&mut self.random, drawn.set) };
-                    Call::Search { rules, table: vec![255; length], reach, query, plan_length: length }
+                    let table = vec![255; length];
+                    if kind == 5 {
+                        Call::Search { rules, table, reach, query, plan_length: length }
+                    } else {
+                        Call::Explain { rules, table, reach, query, moves: vec![1; length % 5], out_length: length }
+                    }
                 }
             };
             compare(&call, &mut self.tally);
@@ -233,6 +247,66 @@ impl Run {
         if let (Call::Search { query, .. }, Ok(set)) = (&call, file::read(call.text())) {
             self.seen.refused(&set, query, answer.outcome());
         }
+        let (moves, out_length) = (self.proposal(drawn, reach, entries, &[&[1, 1]]), self.out_length());
+        compare(&call.for_proposal(&moves, out_length).expect("a search"), &mut self.tally);
+    }
+
+    /// Proposals for one query: about its plan, others that end in the goal, any that can be run, and marked sequences.
+    fn explain(&mut self, drawn: &Drawn, judged: &mut Judged, reach: usize, entries: &[u16], built: &[u16]) {
+        let mut query = self.query(drawn, reach, entries);
+        let all = all_within(drawn.set, &query, LISTED).unwrap_or_default();
+        // most often to where one of them leads, and all of them to be visited
+        if all.len() > 1 && self.random.chance(70) {
+            query.goal = self.random.pick(&all[1..]).state.clone();
+            draw::open(&mut self.random, &mut query.goal);
+            query.step_limit = if self.random.chance(80) { u32::MAX } else { self.random.below(all.len()) as u32 };
+        }
+        let search = Call::Search { rules: drawn.text.to_vec(), table: bytes(entries), reach, query: query.clone(), plan_length: 32 };
+        let searched = judged.expected(&search);
+        let cheapest = plan_among(&all, &query).map_or(0, |plan| plan.cost);
+        let ending = |is_so: &dyn Fn(u32) -> bool| -> Vec<&[u8]> {
+            all.iter().filter(|ran| meets(&query.goal, &ran.state) && is_so(ran.cost)).map(|ran| &ran.sequence[..]).collect()
+        };
+        let rules = drawn.set.rules.len();
+        let (sequences, marks) = (sequences(rules, reach), marked(entries).collect::<Vec<_>>());
+        // witnesses of three rules are rare where no shorter mark ends sooner
+        let by_three = |&&mark: &&usize| entries[mark] as usize >= count(rules, 2) && marked_segments(rules, reach, entries, &sequences[mark]).len() == 1;
+        let groups = [
+            vec![&searched.buffer[..searched.length()]],
+            ending(&|cost| cost == cheapest),
+            ending(&|cost| cost > cheapest),
+            all.iter().map(|ran| &ran.sequence[..]).collect(),
+            marks.iter().map(|&mark| &sequences[mark][..]).collect(),
+            marks.iter().filter(by_three).map(|&mark| &sequences[mark][..]).collect(),
+        ];
+        for _ in 0..PROPOSALS {
+            let known: Vec<&[u8]> = groups.iter().filter(|group| !group.is_empty()).map(|group| self.random.pick(group)).collect();
+            let (moves, out_length) = (self.proposal(drawn, reach, entries, &known), self.out_length());
+            let call = search.for_proposal(&moves, out_length).expect("a search");
+            compare_in(&call, judged, &mut self.tally);
+            let explained = judged.explained(&call).expect("an explanation");
+            let proposed = Proposed { set: drawn.set, query: &query, reach, entries, built, searched: &searched, moves: &moves };
+            self.seen.explained(&proposed, &explained, out_length);
+        }
+    }
+
+    /// A proposal about these sequences; now and then a long one, or one with an unknown move.
+    fn proposal(&mut self, drawn: &Drawn, reach: usize, entries: &[u16], known: &[&[u8]]) -> Vec<u8> {
+        let rules = drawn.set.rules.len();
+        let moves = if self.random.chance(8) {
+            draw::long_proposal(&mut self.random, rules, |moves| unpruned(rules, reach, entries, moves))
+        } else {
+            draw::proposal(&mut self.random, rules, known)
+        };
+        if self.random.chance(8) {
+            draw::with_unknown_move(&mut self.random, rules, moves)
+        } else {
+            moves
+        }
+    }
+
+    fn out_length(&mut self) -> usize {
+        self.random.pick(&[19, 19, 19, 19, 19, 20, 60, 18, 6, 1, 0])
     }
 
     /// A search that ends above its step limit with a plan of some moves, where one is hit upon.

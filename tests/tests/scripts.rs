@@ -1,5 +1,6 @@
 //! The cases of crates/cases_*, document 01's and the source documents' examples among them, put to the C entries.
 
+use planner_tests::by_hand::{gives, Why};
 use planner_tests::calls::Call;
 use planner_tests::compare::{compare, compare_in, Tally};
 use planner_tests::oracle::{file, Judged};
@@ -48,4 +49,20 @@ fn tables() {
 fn queries() {
     let compared = all(include_str!("../../crates/cases_search/stdin"));
     assert!(compared > 2_000, "only {compared} calls");
+}
+
+#[test]
+fn lines_of_explanations() {
+    // document 01's P1 with proposals 21 and none: each is asked with four lengths of the buffer, the third and fourth too short
+    let script = "f positions=2/sizes=2,2/rules=2/cost=1/if=x1,x2/then=0,x2/cost=1/if=x1,x2/then=x1,0/\n\
+                  t 14 3:1,5:4,6:2\nx 2 1,1 0,0 2 9 4 2,1\nx 2 1,1 0,0 2 9 4 -\n";
+    let calls = script::calls(script);
+    assert_eq!(calls.len(), 8);
+    let expected = [Why::later().marked(2, 2, &[1, 2]), Why::off_goal(1)];
+    for (calls, why) in calls.chunks(4).zip(expected) {
+        gives(&calls[0], 0, why.bytes());
+        gives(&calls[1], 0, [&why.bytes()[..], &[0; 6]].concat());
+        gives(&calls[2], 0, vec![0; 18]);
+        gives(&calls[3], 0, vec![]);
+    }
 }

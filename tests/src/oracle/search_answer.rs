@@ -27,6 +27,7 @@ fn bad_query(set: &Set, query: &Query, plan_length: usize) -> Option<u8> {
 }
 
 /// What a search finds. The floor is "zero for other outcomes" than 18.
+#[derive(Clone)]
 pub struct Found {
     pub outcome: u8,
     plan: Vec<u8>,
@@ -44,6 +45,11 @@ impl Found {
 
     fn with_plan(outcome: u8, plan: &Ran, steps: u32, floor: u32, plan_length: usize) -> Found {
         Found { outcome, plan: plan.sequence.clone(), cost: plan.cost, steps, floor, plan_length }
+    }
+
+    /// "only an outcome 0 claims to be cheapest": that plan, and its cost.
+    pub fn cheapest(&self) -> Option<(&[u8], u32)> {
+        (self.outcome == 0).then_some((&self.plan, self.cost))
     }
 
     /// "outcome in the low byte, length in the next, cost in the next 16 bits, steps in the top 32"; "A second C entry, with the same inputs and buffer effects, gives the floor".
