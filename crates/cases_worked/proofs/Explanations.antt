@@ -37,20 +37,20 @@ abbrev row : RuleSet → Query → Sequence → Explanation → Row
 row set query proposal expected = record { set = set; query = query; proposal = proposal; expected = expected }
 
 -- a marked segment: its last move and its length; its witness's length and bytes
-pub record Stretch : Type 0 where
+pub record Segment : Type 0 where
   pub end : ℕ
   pub moves : ℕ
   pub count : ℕ
   pub bytes : List ℕ
 
-abbrev stretch : ℕ → ℕ → ℕ → List ℕ → Stretch
-stretch end moves count bytes = record { end = end; moves = moves; count = count; bytes = bytes }
+abbrev segment : ℕ → ℕ → ℕ → List ℕ → Segment
+segment end moves count bytes = record { end = end; moves = moves; count = count; bytes = bytes }
 
-abbrev unmarked : Stretch
-unmarked = stretch 0 0 0 (0 ∷ 0 ∷ 0 ∷ [])
+abbrev unmarked : Segment
+unmarked = segment 0 0 0 (0 ∷ 0 ∷ 0 ∷ [])
 
 -- outcome, reason, place and both costs, and the marked segment
-abbrev answer : ℕ → ℕ → ℕ → ℕ → ℕ → Stretch → Explanation
+abbrev answer : ℕ → ℕ → ℕ → ℕ → ℕ → Segment → Explanation
 answer outcome reason place cost planCost found =
     record {
       outcome = outcome;
@@ -65,7 +65,7 @@ answer outcome reason place cost planCost found =
     }
 
 -- outcome, reason and place, without costs
-abbrev told : ℕ → ℕ → ℕ → Stretch → Explanation
+abbrev told : ℕ → ℕ → ℕ → Segment → Explanation
 told outcome reason place found = answer outcome reason place 0 0 found
 
 -- an outcome that stands alone
@@ -73,7 +73,7 @@ abbrev alone : ℕ → Explanation
 alone outcome = told outcome 0 0 unmarked
 
 -- dearer than the plan: both costs
-abbrev dearer : ℕ → ℕ → Stretch → Explanation
+abbrev dearer : ℕ → ℕ → Segment → Explanation
 dearer cost planCost found = answer 0 5 0 cost planCost found
 
 -- ── E ────────────────────────────────────────────────────────────────────────────────────────────
@@ -97,22 +97,22 @@ abbrev rowsE : List Row
 rowsE =
     toE (1 ∷ 2 ∷ []) (told 0 7 0 unmarked)
     -- Wrong: costs 2 and 2, which are told with 5 alone
-    ∷ toE (2 ∷ 1 ∷ []) (told 0 6 0 (stretch 2 2 2 (1 ∷ 2 ∷ 0 ∷ [])))
+    ∷ toE (2 ∷ 1 ∷ []) (told 0 6 0 (segment 2 2 2 (1 ∷ 2 ∷ 0 ∷ [])))
     -- off the goal. Wrong: a position from 0, or the highest
-    ∷ toE (1 ∷ 1 ∷ []) (told 0 4 2 (stretch 2 2 1 (1 ∷ 0 ∷ 0 ∷ [])))
+    ∷ toE (1 ∷ 1 ∷ []) (told 0 4 2 (segment 2 2 1 (1 ∷ 0 ∷ 0 ∷ [])))
     ∷ toE (1 ∷ []) (told 0 4 2 unmarked)
     ∷ toE [] (told 0 4 1 unmarked)
     -- over the move bound, be it by 38 moves. Wrong: a segment within the bound only, and so none in the first
-    ∷ toE (1 ∷ 2 ∷ 1 ∷ []) (told 0 1 0 (stretch 3 2 2 (1 ∷ 2 ∷ 0 ∷ [])))
-    ∷ toE (2 ∷ 2 ∷ 1 ∷ 1 ∷ []) (told 0 1 0 (stretch 2 2 1 (2 ∷ 0 ∷ 0 ∷ [])))
-    ∷ toE (replicate 40 1) (told 0 1 0 (stretch 2 2 1 (1 ∷ 0 ∷ 0 ∷ [])))
+    ∷ toE (1 ∷ 2 ∷ 1 ∷ []) (told 0 1 0 (segment 3 2 2 (1 ∷ 2 ∷ 0 ∷ [])))
+    ∷ toE (2 ∷ 2 ∷ 1 ∷ 1 ∷ []) (told 0 1 0 (segment 2 2 1 (2 ∷ 0 ∷ 0 ∷ [])))
+    ∷ toE (replicate 40 1) (told 0 1 0 (segment 2 2 1 (1 ∷ 0 ∷ 0 ∷ [])))
     -- dearer. Wrong: 1, by the plan's length
-    ∷ ofE (both 0) 3 9 4 (1 ∷ 2 ∷ 1 ∷ []) (dearer 3 2 (stretch 3 2 2 (1 ∷ 2 ∷ 0 ∷ [])))
+    ∷ ofE (both 0) 3 9 4 (1 ∷ 2 ∷ 1 ∷ []) (dearer 3 2 (segment 3 2 2 (1 ∷ 2 ∷ 0 ∷ [])))
     -- no plan: 15 beside the reason. Wrong: 15 alone
     ∷ ofE (both 0) 2 1 4 (1 ∷ 2 ∷ []) (told 15 3 2 unmarked)
     ∷ ofE (both 0) 1 9 4 (1 ∷ 2 ∷ []) (told 15 1 0 unmarked)
     -- over the cost bound and off the goal, with a plan and without one. Wrong: 4, with position 1; then with 2
-    ∷ ofE (1 ∷ 0 ∷ []) 2 1 4 (1 ∷ 1 ∷ []) (told 0 3 2 (stretch 2 2 1 (1 ∷ 0 ∷ 0 ∷ [])))
+    ∷ ofE (1 ∷ 0 ∷ []) 2 1 4 (1 ∷ 1 ∷ []) (told 0 3 2 (segment 2 2 1 (1 ∷ 0 ∷ 0 ∷ [])))
     ∷ ofE (both 0) 2 0 4 (1 ∷ []) (told 15 3 1 unmarked)
     -- goals that the start meets, and every state. Wrong: 4 with the position of a 255
     ∷ ofE (both 1) 2 9 4 (1 ∷ []) (told 0 4 1 unmarked)
@@ -144,14 +144,14 @@ toH cost q expected = row H (asked 2 tableH (0 ∷ 0 ∷ 0 ∷ []) (3 ∷ 1 ∷ 
 abbrev rowsH : List Row
 rowsH =
     toH 9 (1 ∷ 2 ∷ 4 ∷ []) (told 0 7 0 unmarked)
-    ∷ toH 9 (1 ∷ 3 ∷ 4 ∷ []) (told 0 6 0 (stretch 3 2 2 (2 ∷ 4 ∷ 0 ∷ [])))
+    ∷ toH 9 (1 ∷ 3 ∷ 4 ∷ []) (told 0 6 0 (segment 3 2 2 (2 ∷ 4 ∷ 0 ∷ [])))
     ∷ toH 9 (2 ∷ []) (told 0 2 1 unmarked)
     -- the empty witness: only the segment tells that there is one
-    ∷ toH 9 (1 ∷ 2 ∷ 2 ∷ []) (told 0 2 3 (stretch 3 2 0 (0 ∷ 0 ∷ 0 ∷ [])))
+    ∷ toH 9 (1 ∷ 2 ∷ 2 ∷ []) (told 0 2 3 (segment 3 2 0 (0 ∷ 0 ∷ 0 ∷ [])))
     -- a marked segment behind the move that fails. Wrong: none
-    ∷ toH 9 (2 ∷ 1 ∷ 1 ∷ []) (told 0 2 1 (stretch 2 2 0 (0 ∷ 0 ∷ 0 ∷ [])))
+    ∷ toH 9 (2 ∷ 1 ∷ 1 ∷ []) (told 0 2 1 (segment 2 2 0 (0 ∷ 0 ∷ 0 ∷ [])))
     -- move 1 passes the cost bound and move 3 fails. Wrong: 3 with move 1
-    ∷ toH 0 (1 ∷ 2 ∷ 2 ∷ []) (told 15 2 3 (stretch 3 2 0 (0 ∷ 0 ∷ 0 ∷ [])))
+    ∷ toH 0 (1 ∷ 2 ∷ 2 ∷ []) (told 15 2 3 (segment 3 2 0 (0 ∷ 0 ∷ 0 ∷ [])))
     ∷ toH 0 (1 ∷ 2 ∷ []) (told 15 3 1 unmarked)
     ∷ []
 
@@ -178,12 +178,12 @@ abbrev rowsMarked : List Row
 rowsMarked =
     -- the table's witness. Wrong: 1, as built
     row fewer (asked 1 (replicate 6 255 ++ markBytes 2) (1 ∷ 0 ∷ []) (both 0) 1 9 9) (3 ∷ [])
-    (told 0 6 0 (stretch 1 1 1 (2 ∷ 0 ∷ 0 ∷ [])))
-    ∷ ofIdle (replicate 14 255) (dearer 3 1 (stretch 3 3 1 (1 ∷ 0 ∷ 0 ∷ [])))
+    (told 0 6 0 (segment 1 1 1 (2 ∷ 0 ∷ 0 ∷ [])))
+    ∷ ofIdle (replicate 14 255) (dearer 3 1 (segment 3 3 1 (1 ∷ 0 ∷ 0 ∷ [])))
     -- (2) is marked too, and ends sooner. Wrong: 1,2,1, which starts sooner
-    ∷ ofIdle (keptBytes ++ keptBytes ++ markBytes 0 ++ replicate 8 255) (dearer 3 1 (stretch 2 1 0 (0 ∷ 0 ∷ 0 ∷ [])))
+    ∷ ofIdle (keptBytes ++ keptBytes ++ markBytes 0 ++ replicate 8 255) (dearer 3 1 (segment 2 1 0 (0 ∷ 0 ∷ 0 ∷ [])))
     -- (2,1) is marked too, and is shorter. Wrong: 1,2,1
-    ∷ ofIdle (replicate 10 255 ++ markBytes 1 ++ keptBytes) (dearer 3 1 (stretch 3 2 1 (1 ∷ 0 ∷ 0 ∷ [])))
+    ∷ ofIdle (replicate 10 255 ++ markBytes 1 ++ keptBytes) (dearer 3 1 (segment 3 2 1 (1 ∷ 0 ∷ 0 ∷ [])))
     ∷ []
 
 -- ── The table ────────────────────────────────────────────────────────────────────────────────────

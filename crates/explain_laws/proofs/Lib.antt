@@ -1,5 +1,5 @@
 pub mod ProposalLoopLaws
 pub mod SegmentLoopLaws
-pub mod FirstReasonLaws
+pub mod ReasonOfLaws
 pub mod LookedUpLaws
 pub mod ExplainedLaws

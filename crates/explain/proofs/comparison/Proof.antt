@@ -7,7 +7,7 @@ use borrow.Author.Needs.{needs}
 use Rattle.model_spec.specs.Rules.{sequenceCost}
 use Rattle.model_spec.proofs.LoopLaws.{failed, passed}
 use Rattle.explain_laws.specs.declared.Reason.{Reason}
-use Rattle.explain_laws.proofs.FirstReasonLaws.{dearer-of, later-of, plan-of}
+use Rattle.explain_laws.proofs.ReasonOfLaws.{dearer-of, later-of, plan-of}
 use Rattle.explain.proofs.comparison.Statement.{statement}
 use Rattle.explain.proofs.comparison.Tie as tie
 

@@ -21,7 +21,7 @@ use Rattle.explain_laws.specs.how.LookedUp.{lookedUp, namedWitness}
 use Rattle.explain_laws.specs.declared.Reason.{Reason}
 use Rattle.explain_laws.specs.declared.Segment.{Segment}
 use Rattle.explain_laws.specs.declared.Witness.{Witness}
-use Rattle.explain_laws.proofs.FirstReasonLaws.{place-limit}
+use Rattle.explain_laws.proofs.ReasonOfLaws.{place-limit}
 use Rattle.explain_laws.proofs.LookedUpLaws.{same-end, same-length, witness-named-by}
 use Rattle.explain.proofs.explained_with.Statement.{statement}
 use Rattle.explain.proofs.explained_with.Tie as tie

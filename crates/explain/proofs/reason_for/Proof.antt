@@ -14,7 +14,7 @@ use Rattle.explain_spec.specs.Reasons.{failingMove, wrongPosition, endPosition}
 use Rattle.explain_spec.proofs.ReasonLaws.{costly-iff}
 use Rattle.explain_laws.specs.declared.Reason.{Reason}
 use Rattle.explain_laws.proofs.ProposalLoopLaws.{known-moves}
-use Rattle.explain_laws.proofs.FirstReasonLaws.{long-of, failing-of, costly-of, end-of, off-of, compared-of}
+use Rattle.explain_laws.proofs.ReasonOfLaws.{long-of, failing-of, costly-of, end-of, off-of, compared-of}
 use Rattle.explain.proofs.reason_for.Statement.{statement}
 use Rattle.explain.proofs.reason_for.Tie as tie
 
