@@ -1,4 +1,6 @@
 // Whether a pruning table is accepted, without what its marks read and write: what a search asks of its table.
+#![tactic(auto)]
+
 ghost use Rattle.std.specs.Prelude.{◌≡◌, ◌*◌, ◌≤◌, ◌<◌, length};
 ghost use Rattle.model_spec.specs.Refusals.{first_refusal};
 ghost use Rattle.model_spec.specs.Validity.{WellFormed};

@@ -1,4 +1,6 @@
 // What a caller does with a search's answer: it takes the plan from its buffer.
+#![tactic(auto)]
+
 ghost use Rattle.std.specs.Prelude.{◌≡◌};
 ghost use Rattle.search_spec.specs.PlanPart.{plan_part};
 

@@ -3,6 +3,8 @@
 // sequence's rules stands before the file, at most 32 and a comma between each two, that sequence and its rotations,
 // 250,000 in all. Such a line begins with a digit. Of a refused file it prints the outcome alone. `bench/run` times it
 // beside the same work in Rust.
+#![tactic(auto)]
+
 ghost use Rattle.std.specs.Prelude.{◌<◌, ◌≤◌, length};
 
 use composition::{empty, extended};
@@ -12,7 +14,7 @@ use model_spec::{MAX_RULES, MOVE_LIMIT, PLACE_COUNT, RuleSet};
 use std::num::wrapping_add_u64;
 
 // How many numbers a line at the start of a text has, and how many bytes it takes with the one that ends it.
-#[derive(Drop)]
+#[derive(Clone, Copy)]
 struct Line {
     count: usize,
     size: usize,
@@ -20,7 +22,7 @@ struct Line {
 
 // What is counted of the macros: those that some state admits, the sum of their entries, and the sum of that sum
 // after each entry, which tells the order.
-#[derive(Drop)]
+#[derive(Clone, Copy)]
 struct Totals {
     admitted: u64,
     sum: u64,

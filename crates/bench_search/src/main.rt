@@ -3,6 +3,8 @@
 // with the start and one with the goal, a number for each position and a comma between each two, 255 in the goal for
 // any value; and then the file. Of a refused file the program prints its outcome alone. `bench/run` times it beside
 // the same search in Rust.
+#![tactic(auto)]
+
 ghost use Rattle.std.specs.Prelude.{◌≤◌, length};
 
 use libc::{STDIN_FILENO, STDOUT_FILENO};
@@ -12,7 +14,7 @@ use tables::sequence_count;
 
 // A number at the start of a text, the byte that ends its digits (0 where the text does), and how many bytes it takes
 // with that one.
-#[derive(Drop)]
+#[derive(Clone, Copy)]
 struct Number {
     value: u64,
     end: u8,
@@ -20,14 +22,14 @@ struct Number {
 }
 
 // How many numbers a line at the start of a text has, and how many bytes it takes with the one that ends it.
-#[derive(Drop)]
+#[derive(Clone, Copy)]
 struct Line {
     count: usize,
     size: usize,
 }
 
 // What the first line gives, and how many bytes it takes.
-#[derive(Drop)]
+#[derive(Clone, Copy)]
 struct Bounds {
     reach: usize,
     max_moves: usize,

@@ -2,6 +2,8 @@
 // the last build and the last check gave them. Standard input is a line with two numbers and a space between, how often
 // to build and how often to check, and then the file. Of a refused file the program prints the outcome alone.
 // `bench/run` times it beside the plain comparison of all macros in Rust.
+#![tactic(auto)]
+
 ghost use Rattle.std.specs.Prelude.{◌≤◌, length};
 
 use libc::{STDIN_FILENO, STDOUT_FILENO};
@@ -12,7 +14,7 @@ use tables::{KEPT, entry_at, sequence_count};
 use unions_spec::TableAnswer;
 
 // A number at the start of a text, and how many bytes its digits take with the byte that ends them.
-#[derive(Drop)]
+#[derive(Clone, Copy)]
 struct Number {
     value: u32,
     size: usize,
@@ -20,7 +22,7 @@ struct Number {
 
 // What is counted of a table: its marks, the sum of its entries, and the sum of that sum after each entry, which
 // tells the order.
-#[derive(Drop)]
+#[derive(Clone, Copy)]
 struct Totals {
     marks: u64,
     sum: u64,
@@ -28,7 +30,7 @@ struct Totals {
 }
 
 // Of builds or checks: how many were not refused, and the unions that the last one gave.
-#[derive(Drop)]
+#[derive(Clone, Copy)]
 struct Runs {
     passed: u64,
     touched: Touched,

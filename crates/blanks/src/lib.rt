@@ -1,4 +1,6 @@
 // The unused rule and the empty set: what stands where nothing was read.
+#![tactic(auto)]
+
 ghost use Rattle.std.specs.Prelude.{◌≡◌};
 ghost use Rattle.model_spec.specs.Rules.{blank_rule, empty_set};
 

@@ -1,4 +1,6 @@
 // Numbers held to a limit: a byte, and a place or a length.
+#![tactic(auto)]
+
 ghost use Rattle.std.specs.Prelude.{◌≡◌, min};
 
 // The byte, or its limit where that is smaller.

@@ -1,4 +1,6 @@
 // Buffers that a caller lends for writing.
+#![tactic(auto)]
+
 ghost use Rattle.std.specs.Prelude.{◌≡◌};
 ghost use Rattle.model_spec.specs.How.Buffers.{filled_from};
 

@@ -1,4 +1,6 @@
 // The builder of pruning tables.
+#![tactic(auto)]
+
 ghost use Rattle.std.specs.Prelude.{◌≡◌, ◌*◌, ◌≤◌, ◌<◌, length};
 ghost use Rattle.model_spec.specs.Refusals.{first_refusal};
 ghost use Rattle.model_spec.specs.Rules.{sequence_cost};

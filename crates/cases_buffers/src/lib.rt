@@ -1,4 +1,6 @@
 // What the case programs have in common: numbers put into a buffer.
+#![tactic(auto)]
+
 ghost use Rattle.std.specs.Prelude.{◌≡◌, ◌%◌, set};
 ghost use Rattle.cases_laws.specs.How.Texts.{with_entry};
 

@@ -1,4 +1,6 @@
 // What the case programs have in common: the parts of a line.
+#![tactic(auto)]
+
 ghost use Rattle.std.specs.Prelude.{◌≡◌, map, ◌≤◌, min, length};
 ghost use Rattle.std.proofs.Math.Seq.{paste};
 ghost use Rattle.cases_laws.specs.How.Texts.{line_fed, up_to, behind, with_digit, number_of};

@@ -9,6 +9,8 @@
 //   byte longer, and of 65,536 bytes: outcome and length of each, and what the buffer then holds
 // - `s` read the text, change the set in each of some ways and write it: the outcomes, a digit each
 // The answers that `stdout` holds were written by hand from documents 01 and 02.
+#![tactic(auto)]
+
 ghost use Rattle.std.specs.Prelude.{◌≤◌, length};
 
 use bytes::scan::find;

@@ -7,6 +7,8 @@
 //   positions that it reads and writes, with commas between; of a refusal whether the answer is zeros throughout
 // - `w` whether the moves before ` by ` are redundant with those after it
 // The answers that `stdout` holds were written by hand from documents 01 and 02 and from the source documents.
+#![tactic(auto)]
+
 ghost use Rattle.std.specs.Prelude.{◌≤◌, length};
 
 use bytes::scan::find;

@@ -43,6 +43,8 @@
 // The answers to `x` were worked out by hand, line by line, from document 02, and compared with a script that tries
 // every segment and every reason on lists of all sequences, and finds the plan as above where these are more than
 // 3,000.
+#![tactic(auto)]
+
 ghost use Rattle.std.specs.Prelude.{◌≤◌, length};
 
 use bounded::smaller;
@@ -80,7 +82,7 @@ fn list_of(text: &[u8], bytes: &mut [u8]) -> usize
 }
 
 // What the lines before leave: the rule set, how many bytes the table that stands has, and the tally.
-#[derive(Drop)]
+#[derive(Clone, Copy)]
 struct Standing {
     set: RuleSet,
     size: usize,
@@ -88,7 +90,7 @@ struct Standing {
 }
 
 // An answer, and the tally updated by it.
-#[derive(Drop)]
+#[derive(Clone, Copy)]
 struct Counted {
     answer: Answer,
     tally: Tally,

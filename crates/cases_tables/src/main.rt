@@ -22,6 +22,8 @@
 // worked out from documents 01 and 02 and the source documents by a script that runs every sequence in every state;
 // where there are too many states (boards, pancakes, 16 positions of 16 values), in states that tell its entries apart,
 // or by hand. Those of the small tables, and the sums where there is a pattern, were worked out by hand as well.
+#![tactic(auto)]
+
 ghost use Rattle.std.specs.Prelude.{◌*◌, ◌≤◌, ◌<◌, length};
 
 use buffers::fill_from;

@@ -1,1 +1,2 @@
 // The worked cases of document 01, proved of the definitions.
+#![tactic(auto)]

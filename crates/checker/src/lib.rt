@@ -1,4 +1,6 @@
 // The check of pruning tables (document 01: the judge).
+#![tactic(auto)]
+
 ghost use Rattle.std.specs.Prelude.{◌≡◌, not, cond, ◌*◌, ◌≤◌, ◌<◌, eqb, length};
 ghost use Rattle.model_spec.specs.Refusals.{first_refusal};
 ghost use Rattle.model_spec.specs.Validity.{WellFormed};

@@ -1,4 +1,6 @@
 // The clients' tallies: one list, updated where the caller keeps it.
+#![tactic(auto)]
+
 ghost use Rattle.std.specs.Prelude.{◌≡◌, length};
 ghost use Rattle.clients_spec.specs.Clients.{client_refusal, client_tallied, UpdateMeaning};
 

@@ -2,6 +2,8 @@
 // come back by value, without a lent buffer; so `followed` does by value what `states`' `after` does on arrays that
 // are lent. Both vectors travel in one struct that is changed in place: document 02 allows one copy of the effect for
 // each rule, and none of the condition.
+#![tactic(auto)]
+
 ghost use Rattle.std.specs.Prelude.{◌≡◌, true, not, cond, min, max, ◌+◌, ◌<◌, ltb, eqb};
 ghost use Rattle.std.proofs.Math.Option.{some, none};
 ghost use Rattle.model_spec.specs.Limits.{place_count, first_variable};

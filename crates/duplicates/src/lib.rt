@@ -1,4 +1,6 @@
 // Whether a set has duplicates (documents 01 and 02: twins): two rules with equal costs, conditions and effects.
+#![tactic(auto)]
+
 ghost use Rattle.std.specs.Prelude.{◌≡◌, min, ◌<◌};
 ghost use Rattle.model_spec.specs.Limits.{max_rules};
 ghost use Rattle.model_spec.specs.Validity.{duplicate, repeated, has_duplicates};

@@ -1,5 +1,7 @@
 // Why a proposed sequence is not the plan (document 02, request 2026-06): the outcome of the query, the first reason
 // that holds of the proposal, and its marked segment.
+#![tactic(auto)]
+
 ghost use Rattle.std.specs.Prelude.{◌≡◌, List, ℕ, ◌≤◌, length};
 ghost use Rattle.theory_spec.specs.Lists.{padded};
 ghost use Rattle.theory_spec.specs.Sequences.{Numbered};

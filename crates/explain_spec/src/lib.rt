@@ -1,9 +1,10 @@
 // Explanations: why a proposed sequence is not the plan (document 02, request 2026-06). A type, definitions and laws;
 // the code is in `explain` and the crates below it.
+#![tactic(auto)]
 
 // The answer: the outcome of the query and, with 0 and 15, the first reason that holds of the proposal, and its first
 // marked segment. With every other outcome all else is 0.
-#[derive(Drop)]
+#[derive(Clone, Copy)]
 pub struct Explanation {
     // as of a search with room for every plan, but for 13: a move of the proposal is no rule's number
     pub outcome: u8,

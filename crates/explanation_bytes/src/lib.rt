@@ -1,4 +1,6 @@
 // The bytes of an explanation.
+#![tactic(auto)]
+
 ghost use Rattle.std.specs.Prelude.{◌≡◌};
 ghost use Rattle.planner_spec.specs.TextExplain.{explanation_bytes, number_bytes};
 

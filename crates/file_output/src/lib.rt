@@ -1,4 +1,6 @@
 // A rule file, laid over a buffer.
+#![tactic(auto)]
+
 ghost use Rattle.std.specs.Prelude.{◌≡◌, min, take};
 ghost use Rattle.theory_spec.specs.Lists.{flat};
 ghost use Rattle.model_spec.specs.Limits.{max_rules};

@@ -1,4 +1,6 @@
 // The comma lists of a rule file, each laid over a buffer from a place on.
+#![tactic(auto)]
+
 ghost use Rattle.files_spec.specs.Text.{numeral};
 ghost use Rattle.files_spec.specs.File.{entry_text};
 ghost use Rattle.output_laws.specs.How.Overlay.{Laid, list_text};

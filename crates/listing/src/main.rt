@@ -1,4 +1,6 @@
 // The listing program: reads a rule file on standard input and prints the marks of its table for reach 2.
+#![tactic(auto)]
+
 ghost use Rattle.std.specs.Prelude.{ℕ, ◌≤◌, ◌≡◌, List, length, take};
 ghost use Rattle.io.specs.Counts.{IsPrefixLen};
 ghost use Rattle.report_spec.specs.Listing.{listing};

@@ -1,5 +1,7 @@
 // One look-up for all segments that end in the newest rule: a byte for each index, whether a suffix of its sequence is
 // marked.
+#![tactic(auto)]
+
 ghost use Rattle.std.specs.Prelude.{◌≡◌, ◌+◌, ◌*◌, ◌-◌, ◌≤◌, ◌<◌, min, take, drop};
 ghost use Rattle.theory_spec.specs.How.Indices.{index_of, sequence_of};
 ghost use Rattle.theory_spec.specs.How.Recursion.{last};

@@ -1,4 +1,6 @@
 // The bytes of a macro and of the positions that it reads and writes.
+#![tactic(auto)]
+
 ghost use Rattle.std.specs.Prelude.{◌≡◌, get_or};
 ghost use Rattle.tables_spec.specs.Table.{entry_bytes};
 ghost use Rattle.planner_spec.specs.TextMacro.{macro_bytes};

@@ -1,4 +1,6 @@
 // Macros of sequences.
+#![tactic(auto)]
+
 ghost use Rattle.std.specs.Prelude.{◌≡◌};
 ghost use Rattle.theory_spec.specs.Sequences.{Numbered};
 ghost use Rattle.model_spec.specs.Limits.{max_rules};

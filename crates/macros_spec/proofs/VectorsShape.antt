@@ -15,7 +15,7 @@ use Rattle.macros_spec.proofs.Vectors.TheLaws as T'
 module _ (v : Vectors) (vs : List Val) (is : Is T.the_row v vs) where
   pub condition_16 : length v.condition ≡ 16
   condition_16 =
-      sym (length-map v.condition u8-field.into) ∙ (LL.owed T.the_type T'.the_laws v vs is).1.0.1.0.1
+      (LL.owed T.the_type T'.the_laws v vs is).1.0.1.0.1
 
   pub effect_16 : length v.effect ≡ 16
-  effect_16 = sym (length-map v.effect u8-field.into) ∙ (LL.owed T.the_type T'.the_laws v vs is).1.1.0.1.0.1
+  effect_16 = (LL.owed T.the_type T'.the_laws v vs is).1.1.0.1.0.1

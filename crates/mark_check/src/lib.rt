@@ -1,4 +1,6 @@
 // The test of one mark of a pruning table.
+#![tactic(auto)]
+
 ghost use Rattle.std.specs.Prelude.{◌≡◌, ◌&&◌, ltb};
 ghost use Rattle.macros_spec.specs.Composition.{lines_of};
 ghost use Rattle.macros_spec.specs.Redundancy.{redundant_by_lines};

@@ -1,4 +1,6 @@
 // The lines of a mark in a listing, laid over a buffer from a place on.
+#![tactic(auto)]
+
 ghost use Rattle.std.specs.Prelude.{◌≡◌};
 ghost use Rattle.output_laws.specs.How.Overlay.{Laid};
 ghost use Rattle.report_laws.specs.How.Marks.{index_touched, entry_lines};

@@ -13,5 +13,4 @@ use Rattle.model_spec.specs.contracts.RuleSet as T
 use Rattle.model_spec.proofs.RuleSet.TheLaws as T'
 
 pub rules_31 : (s : RuleSet) (vs : List Val) → Is T.the_row s vs → length s.rules ≡ 31
-rules_31 s vs is =
-    sym (length-map s.rules (R.the_field).into) ∙ (LL.owed T.the_type T'.the_laws s vs is).1.1.1.0.1.0.1
+rules_31 s vs is = (LL.owed T.the_type T'.the_laws s vs is).1.1.1.0.1.0.1

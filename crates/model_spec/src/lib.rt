@@ -1,4 +1,5 @@
 // Limits, rules and rule sets, states, validity, refusals and buffers: constants, types, definitions and laws.
+#![tactic(auto)]
 
 // A state (document 01: a yard), a condition and an effect are sixteen bytes each: one for each position, and 0 in the
 // places beyond. An entry of a condition or an effect below 16 is that constant; 16 + k, for k from 0 to 15, is the
@@ -29,7 +30,7 @@ pub const MOVE_LIMIT: usize = 32;
 pub const FIRST_VARIABLE: u8 = 16;
 
 // A rule: where it runs (the `if` line), where it leads (the `then` line), and what it costs.
-#[derive(Drop)]
+#[derive(Clone, Copy)]
 pub struct Rule {
     pub cost: u8,
     pub condition: [u8; PLACE_COUNT],
@@ -38,7 +39,7 @@ pub struct Rule {
 
 // A rule set: `positions` sizes and `count` rules are used. A valid one is zero in every place beyond them; a caller
 // may pass any.
-#[derive(Drop)]
+#[derive(Clone, Copy)]
 pub struct RuleSet {
     pub positions: u8,
     pub sizes: [u8; PLACE_COUNT],

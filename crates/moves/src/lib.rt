@@ -1,4 +1,6 @@
 // A sequence given as moves, the numbers of rules: whether each is one, the rule of a number, and the sequence's cost.
+#![tactic(auto)]
+
 ghost use Rattle.std.specs.Prelude.{◌≡◌, not, ◌-◌, min};
 ghost use Rattle.theory_spec.specs.Lists.{any, within};
 ghost use Rattle.model_spec.specs.Limits.{max_rules};

@@ -1,4 +1,6 @@
 // Numbers laid over a buffer from a place on, by themselves and on a line with a key.
+#![tactic(auto)]
+
 ghost use Rattle.std.specs.Prelude.{[], ◌∷◌, ◌++◌, ◌≤◌, ◌<◌};
 ghost use Rattle.files_spec.specs.Text.{line_feed, digit, numeral};
 ghost use Rattle.output_laws.specs.How.Overlay.{Laid, shown_numeral};

@@ -1,5 +1,7 @@
 // Text laid over a buffer from a place on, as far as the buffer reaches; the place after it is given back, held at the
 // largest of the machine's numbers.
+#![tactic(auto)]
+
 ghost use Rattle.std.specs.Prelude.{◌≡◌, [], ◌∷◌};
 ghost use Rattle.output_laws.specs.How.Overlay.{place_after, Laid};
 

@@ -1,1 +1,2 @@
 // Texts laid over a buffer: definitions that its functions promise, and laws.
+#![tactic(auto)]

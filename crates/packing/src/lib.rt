@@ -1,4 +1,6 @@
 // Answers of several parts as one number, for the C entries.
+#![tactic(auto)]
+
 ghost use Rattle.std.specs.Prelude.{◌≡◌, ◌%◌};
 ghost use Rattle.planner_spec.specs.PackedLength.{packed_length};
 ghost use Rattle.planner_spec.specs.How.LengthLimit.{length_limit};

@@ -1,5 +1,7 @@
 // Places of a line: how many values one has, whether an entry is within its limit, and whether a variable may stand
 // there.
+#![tactic(auto)]
+
 ghost use Rattle.std.specs.Prelude.{◌≡◌, get_or};
 ghost use Rattle.model_spec.specs.States.{width};
 ghost use Rattle.model_spec.specs.Validity.{entry_limited, condition_placed, effect_placed};

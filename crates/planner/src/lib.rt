@@ -1,4 +1,6 @@
 // The entries that C programs call. All take a rule text; 1 to 4 of the text come before all else.
+#![tactic(auto)]
+
 mod explanation;
 mod floor;
 

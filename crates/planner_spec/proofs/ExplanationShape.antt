@@ -14,5 +14,4 @@ use Rattle.explain_spec.proofs.Explanation.TheLaws as T'
 
 pub witness-places : (answer : Explanation) (vs : List Val) → Is T.the_row answer vs → length answer.witness ≡ 3
 witness-places answer vs is =
-    sym (length-map answer.witness u8-field.into)
-    ∙ (LL.owed T.the_type T'.the_laws answer vs is).1.1.1.1.1.1.1.1.0.1.0.1
+    (LL.owed T.the_type T'.the_laws answer vs is).1.1.1.1.1.1.1.1.0.1.0.1

@@ -14,7 +14,7 @@ use Rattle.macros_spec.proofs.Macro.TheLaws as T'
 
 module _ (m : Macro) (vs : List Val) (is : Is T.the_row m vs) where
   pub condition_16 : length m.condition ≡ 16
-  condition_16 = sym (length-map m.condition u8-field.into) ∙ (LL.owed T.the_type T'.the_laws m vs is).0.1.0.1
+  condition_16 = (LL.owed T.the_type T'.the_laws m vs is).0.1.0.1
 
   pub effect_16 : length m.effect ≡ 16
-  effect_16 = sym (length-map m.effect u8-field.into) ∙ (LL.owed T.the_type T'.the_laws m vs is).1.0.1.0.1
+  effect_16 = (LL.owed T.the_type T'.the_laws m vs is).1.0.1.0.1

@@ -1,1 +1,2 @@
 // What the C entries answer: definitions and laws.
+#![tactic(auto)]

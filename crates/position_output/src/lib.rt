@@ -1,4 +1,6 @@
 // The positions of a set, laid over a buffer from a place on.
+#![tactic(auto)]
+
 ghost use Rattle.std.specs.Prelude.{[], ◌∷◌, ◌++◌};
 ghost use Rattle.files_spec.specs.Text.{line_feed, comma_list};
 ghost use Rattle.output_laws.specs.How.Overlay.{Laid};

@@ -1,5 +1,7 @@
 // What the reasons against a proposal name: the first move that fails, the first that passes the cost bound, the lowest
 // wrong position; and whether two sequences are the same.
+#![tactic(auto)]
+
 ghost use Rattle.std.specs.Prelude.{◌≡◌, not, ◌&&◌, eqb, take};
 ghost use Rattle.std.proofs.Math.Option.{some};
 ghost use Rattle.theory_spec.specs.Lists.{same};

@@ -1,4 +1,6 @@
 // What is judged of a query before any sequence is visited.
+#![tactic(auto)]
+
 ghost use Rattle.std.specs.Prelude.{◌≡◌, ℕ, ◌≤◌};
 ghost use Rattle.model_spec.specs.Limits.{max_positions};
 ghost use Rattle.model_spec.specs.Refusals.{first_refusal};

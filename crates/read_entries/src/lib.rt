@@ -1,5 +1,7 @@
 // The entries of a rule's lines, each read at a place of the text and judged for its limit and its place.
 // A set has at most 16 positions: a variable above 16 is outside its limit, whatever number is given.
+#![tactic(auto)]
+
 ghost use Rattle.std.specs.Prelude.{◌≡◌, min, drop, set};
 ghost use Rattle.model_spec.specs.Limits.{max_positions};
 ghost use Rattle.files_spec.specs.Reading.{variable, constant, entry};

@@ -1,4 +1,6 @@
 // All lines of a rule file, read from its start: the positions, the sizes, the number of rules, and each rule's own.
+#![tactic(auto)]
+
 ghost use Rattle.std.specs.Prelude.{◌≡◌, ◌≤◌, drop};
 ghost use Rattle.model_spec.specs.Limits.{max_positions, max_rules};
 ghost use Rattle.files_spec.specs.Reading.{rule_list, file_lines};

@@ -1,4 +1,6 @@
 // The items of a text, each read at a place: words, and numbers with the byte that ends them.
+#![tactic(auto)]
+
 ghost use Rattle.std.specs.Prelude.{◌≡◌, ◌≤◌, length, drop};
 ghost use Rattle.files_spec.specs.Reading.{literal, is_digit, digits, is_number, decimal, number, number_within};
 ghost use Rattle.reader_laws.specs.How.Found.{found};

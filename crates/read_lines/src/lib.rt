@@ -1,4 +1,6 @@
 // Lines of a rule file, each read at a place of the text: a key, and one number or a list of items.
+#![tactic(auto)]
+
 ghost use Rattle.std.specs.Prelude.{◌≡◌, ◌≤◌, ◌<◌, min, take, drop};
 ghost use Rattle.model_spec.specs.Limits.{max_positions, place_count};
 ghost use Rattle.reader_laws.specs.How.Found.{found};

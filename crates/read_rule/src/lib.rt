@@ -1,4 +1,6 @@
 // The lines of a rule, read at a place of the text: its cost, its condition and its effect.
+#![tactic(auto)]
+
 ghost use Rattle.std.specs.Prelude.{◌≡◌, min, drop};
 ghost use Rattle.model_spec.specs.Limits.{max_positions};
 ghost use Rattle.files_spec.specs.Reading.{rule_lines};

@@ -1,4 +1,6 @@
 // The reader of rule files: what its lines give, then the end of the text and duplicates.
+#![tactic(auto)]
+
 ghost use Rattle.std.specs.Prelude.{◌≡◌};
 ghost use Rattle.files_spec.specs.Reading.{file_lines, reading};
 ghost use Rattle.files_spec.specs.Meaning.{ReadMeaning};

@@ -1,8 +1,10 @@
 // How the reader goes about it: what its functions find at a place of the text, parts that they promise, and laws.
+#![tactic(auto)]
+
 use model_spec::{PLACE_COUNT, RULE_PLACES, Rule, RuleSet};
 
 // The lines that list an item for each position.
-#[derive(Drop)]
+#[derive(Clone, Copy)]
 pub enum Line {
     Sizes,
     Condition,
@@ -13,7 +15,7 @@ pub enum Line {
 // or with outcome 0 a value and the place after it.
 
 // A number as it is written, before its limit is judged.
-#[derive(Drop)]
+#[derive(Clone, Copy)]
 pub struct FoundNumber {
     pub outcome: u8,
     pub value: u16,
@@ -21,7 +23,7 @@ pub struct FoundNumber {
 }
 
 // A number or an entry within its limit; after a key only outcome and place count.
-#[derive(Drop)]
+#[derive(Clone, Copy)]
 pub struct Found {
     pub outcome: u8,
     pub value: u8,
@@ -29,7 +31,7 @@ pub struct Found {
 }
 
 // The items of a line, 0 in the places beyond them.
-#[derive(Drop)]
+#[derive(Clone, Copy)]
 pub struct FoundLine {
     pub outcome: u8,
     pub entries: [u8; PLACE_COUNT],
@@ -37,7 +39,7 @@ pub struct FoundLine {
 }
 
 // The lines of one rule.
-#[derive(Drop)]
+#[derive(Clone, Copy)]
 pub struct FoundRule {
     pub outcome: u8,
     pub rule: Rule,
@@ -45,7 +47,7 @@ pub struct FoundRule {
 }
 
 // The lines of all rules, zero throughout beyond them.
-#[derive(Drop)]
+#[derive(Clone, Copy)]
 pub struct FoundRules {
     pub outcome: u8,
     pub rules: [Rule; RULE_PLACES],
@@ -53,7 +55,7 @@ pub struct FoundRules {
 }
 
 // All lines of the file.
-#[derive(Drop)]
+#[derive(Clone, Copy)]
 pub struct FoundSet {
     pub outcome: u8,
     pub set: RuleSet,

@@ -1,4 +1,6 @@
 // Redundancy of a sequence with another, decided on the first one's vectors.
+#![tactic(auto)]
+
 ghost use Rattle.std.specs.Prelude.{◌≡◌, leb};
 ghost use Rattle.theory_spec.specs.Sequences.{Numbered};
 ghost use Rattle.model_spec.specs.Limits.{max_rules};

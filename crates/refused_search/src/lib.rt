@@ -1,4 +1,6 @@
 // What a call leaves that is refused before its query is judged.
+#![tactic(auto)]
+
 ghost use Rattle.std.specs.Prelude.{◌≡◌, length};
 ghost use Rattle.search_spec.specs.Searched.{refused_search};
 

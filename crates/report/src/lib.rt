@@ -1,4 +1,6 @@
 // The listing of a rule file's pruning table.
+#![tactic(auto)]
+
 ghost use Rattle.std.specs.Prelude.{◌≡◌, cond, [], ◌∷◌, ◌*◌, eqb, length};
 ghost use Rattle.model_spec.specs.Validity.{Valid};
 ghost use Rattle.files_spec.specs.Text.{numeral, line};

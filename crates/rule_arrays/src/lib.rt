@@ -1,4 +1,6 @@
 // The lines and costs of a set's rules as arrays, to be lent.
+#![tactic(auto)]
+
 ghost use Rattle.std.specs.Prelude.{◌≡◌, map};
 
 use model_spec::{PLACE_COUNT, RULE_PLACES, RuleSet};

@@ -1,4 +1,6 @@
 // The lines of a rule in a rule file, laid over a buffer from a place on.
+#![tactic(auto)]
+
 ghost use Rattle.std.specs.Prelude.{◌++◌};
 ghost use Rattle.files_spec.specs.File.{entry_text, rule_text};
 ghost use Rattle.output_laws.specs.How.Overlay.{Laid, list_text};

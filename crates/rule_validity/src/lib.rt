@@ -1,4 +1,6 @@
 // Whether a rule of a set is valid: every entry of its two lines within its limit and in place.
+#![tactic(auto)]
+
 ghost use Rattle.std.specs.Prelude.{◌≡◌};
 ghost use Rattle.model_spec.specs.Validity.{condition_valid, effect_valid, rule_valid};
 

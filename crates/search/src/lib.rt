@@ -1,5 +1,7 @@
 // The search (document 01: the walk): the cheapest plan of a query, or why there is none; over its step limit the
 // cheapest of the plans met, if any, and a floor.
+#![tactic(auto)]
+
 ghost use Rattle.std.specs.Prelude.{◌≡◌, ◌++◌, ◌≤◌, length, take, drop};
 ghost use Rattle.model_spec.specs.Limits.{move_limit};
 ghost use Rattle.search_spec.specs.Query.{asked};

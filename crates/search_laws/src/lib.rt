@@ -1,9 +1,11 @@
 // How the search goes about it: the types that it passes along, definitions that its functions promise, and laws. No
 // promise of a call needs these, only those of functions below the calls.
+#![tactic(auto)]
+
 use model_spec::MOVE_LIMIT;
 
 // The best plan met so far. Its moves are rule numbers, with 255 in every other byte.
-#[derive(Drop)]
+#[derive(Clone, Copy)]
 pub struct Best {
     pub found: bool,
     pub cost: u16,
@@ -13,7 +15,7 @@ pub struct Best {
 
 // How far the search has come: the sequences visited, at most the step limit; whether there are more than the limit;
 // the best plan of those visited; the least cost of those met beyond the limit.
-#[derive(Drop)]
+#[derive(Clone, Copy)]
 pub struct Progress {
     pub steps: u32,
     pub exceeded: bool,
@@ -23,7 +25,7 @@ pub struct Progress {
 
 // What stays the same all through a search: how many positions and rules the set has, the table's reach, the cost bound
 // and the step limit.
-#[derive(Drop)]
+#[derive(Clone, Copy)]
 pub struct Limits {
     pub positions: usize,
     pub count: usize,
@@ -34,7 +36,7 @@ pub struct Limits {
 
 // What a query comes to before a plan is shown: the number for which it is refused, or with 0 how far the search has
 // come.
-#[derive(Drop)]
+#[derive(Clone, Copy)]
 pub struct Exploration {
     pub refusal: u8,
     pub progress: Progress,

@@ -1,5 +1,7 @@
 // What visiting a sequence makes of the search's progress: one step more, and the best plan so far. And what the
 // progress comes to: the outcome, and the floor.
+#![tactic(auto)]
+
 ghost use Rattle.std.specs.Prelude.{◌≡◌, min, take};
 ghost use Rattle.model_spec.specs.Limits.{place_count};
 ghost use Rattle.search_spec.specs.Query.{meets_goal};

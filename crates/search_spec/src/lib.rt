@@ -1,8 +1,9 @@
 // Queries: what a search is asked and answers, the plan handed back and the tally. Types, definitions and laws; the
 // code is in `search`, `answers`, `tally` and `tallied_search`.
+#![tactic(auto)]
 
 // What a search gives beside the plan buffer.
-#[derive(Drop)]
+#[derive(Clone, Copy)]
 pub struct Answer {
     // 0: the cheapest plan; 18: a plan at the step limit; any other number: why there is none
     pub outcome: u8,
@@ -16,7 +17,7 @@ pub struct Answer {
 }
 
 // A caller's tally of its queries by outcome, and the sum of their steps. Each count stays at its top value.
-#[derive(Drop)]
+#[derive(Clone, Copy)]
 pub struct Tally {
     // outcome 0: the cheapest plan found
     pub solved: u64,

@@ -1,4 +1,6 @@
 // The states of a search, to the positions only: the start, whether a rule goes on, and where its effect leads.
+#![tactic(auto)]
+
 ghost use Rattle.std.specs.Prelude.{◌≡◌, ◌&&◌, min, leb, eqb, take};
 ghost use Rattle.theory_spec.specs.Lists.{padded};
 ghost use Rattle.model_spec.specs.Limits.{place_count};

@@ -1,5 +1,7 @@
 // The marked segment of a proposal that ends soonest, the shortest of those, and the witness that the table names for
 // it.
+#![tactic(auto)]
+
 ghost use Rattle.std.specs.Prelude.{◌≡◌, ◌≤◌, length, take};
 ghost use Rattle.theory_spec.specs.Lists.{padded};
 ghost use Rattle.theory_spec.specs.How.Indices.{index_of};

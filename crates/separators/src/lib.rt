@@ -1,4 +1,6 @@
 // The bytes between the items of a line of a rule file.
+#![tactic(auto)]
+
 ghost use Rattle.std.specs.Prelude.{◌≡◌};
 ghost use Rattle.files_spec.specs.Reading.{ending_of};
 

@@ -1,4 +1,6 @@
 // The rule numbers of a sequence, laid over a buffer from a place on.
+#![tactic(auto)]
+
 ghost use Rattle.std.specs.Prelude.{◌≡◌, [], ◌∷◌, ◌++◌, max};
 ghost use Rattle.files_spec.specs.Text.{line_feed};
 ghost use Rattle.output_laws.specs.How.Overlay.{Laid};

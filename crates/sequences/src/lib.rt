@@ -1,4 +1,6 @@
 // The sequences of at most three rules by their indices, and what the tables need to know of each.
+#![tactic(auto)]
+
 ghost use Rattle.std.specs.Prelude.{◌≡◌, min, max, ◌≤◌, length, drop};
 ghost use Rattle.theory_spec.specs.Sequences.{Numbered};
 ghost use Rattle.model_spec.specs.Limits.{max_rules};

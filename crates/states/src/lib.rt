@@ -1,4 +1,6 @@
 // Rules on states: what an entry stands for, whether a rule runs, where it leads.
+#![tactic(auto)]
+
 ghost use Rattle.std.specs.Prelude.{◌≡◌};
 ghost use Rattle.theory_spec.specs.Lists.{same};
 ghost use Rattle.model_spec.specs.States.{value_of, applicable, successor};

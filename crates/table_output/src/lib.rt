@@ -1,4 +1,6 @@
 // The listing of a table, laid over a buffer.
+#![tactic(auto)]
+
 ghost use Rattle.std.specs.Prelude.{◌≡◌, length};
 ghost use Rattle.output_laws.specs.How.Overlay.{Laid};
 ghost use Rattle.report_laws.specs.How.Marks.{table_marks, marks_text, table_text};

@@ -1,4 +1,6 @@
 // How long a pruning table is, and whether a table has that length.
+#![tactic(auto)]
+
 ghost use Rattle.std.specs.Prelude.{◌≡◌};
 ghost use Rattle.model_spec.specs.Refusals.{first_refusal};
 ghost use Rattle.tables_spec.specs.Answers.{reach_causes, shape_causes, size_with, table_size, SizeMeaning};

@@ -1,4 +1,6 @@
 // Pruning tables (document 01: drop tables): an entry of one, and how many it has.
+#![tactic(auto)]
+
 ghost use Rattle.std.specs.Prelude.{◌≡◌, min, ◌<◌, get_or};
 ghost use Rattle.tables_spec.specs.Table.{sequence_count, entry_at};
 

@@ -13,4 +13,4 @@ use Rattle.tables_laws.specs.contracts.ShortSequence as T
 use Rattle.tables_laws.proofs.ShortSequence.TheLaws as T'
 
 pub rules_3 : (s : ShortSequence) (vs : List Val) → Is T.the_row s vs → length s.rules ≡ 3
-rules_3 s vs is = sym (length-map s.rules u8-field.into) ∙ (LL.owed T.the_type T'.the_laws s vs is).1.0.1.0.1
+rules_3 s vs is = (LL.owed T.the_type T'.the_laws s vs is).1.0.1.0.1

@@ -1,4 +1,6 @@
 // The tally of a caller's queries: updated by value, and where the caller keeps it.
+#![tactic(auto)]
+
 ghost use Rattle.std.specs.Prelude.{◌≡◌, not};
 ghost use Rattle.search_spec.specs.Searched.{is_limited, is_answer};
 ghost use Rattle.search_spec.specs.Tallies.{raised, raised_if, tallied_of, TallyMeaning};

@@ -1,4 +1,6 @@
 // The explanation with the set of a rule text, as bytes. 1 to 4 of the text come before all else.
+#![tactic(auto)]
+
 ghost use Rattle.std.specs.Prelude.{◌≡◌, length, replicate};
 ghost use Rattle.search_spec.specs.Query.{asked};
 ghost use Rattle.planner_spec.specs.TextExplain.{text_explained, explanation_buffer, TextExplainMeaning};

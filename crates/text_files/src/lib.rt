@@ -1,4 +1,6 @@
 // A rule file read and written again.
+#![tactic(auto)]
+
 ghost use Rattle.std.specs.Prelude.{◌≡◌, length};
 ghost use Rattle.planner_spec.specs.Rewriting.{rewritten, rewritten_buffer, RewriteMeaning};
 

@@ -1,5 +1,7 @@
 // The macro of a sequence of a rule text's set, and what it reads and writes, as bytes. 1 to 4 of the text come before
 // all else.
+#![tactic(auto)]
+
 ghost use Rattle.std.specs.Prelude.{◌≡◌, not, [], ◌∷◌, ◌≤◌, ltb, eqb, length};
 ghost use Rattle.theory_spec.specs.Lists.{padded};
 ghost use Rattle.model_spec.specs.Refusals.{first_refusal};

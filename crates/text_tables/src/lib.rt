@@ -1,4 +1,6 @@
 // Pruning tables of a rule text's set. 1 to 4 of the text come before all else.
+#![tactic(auto)]
+
 ghost use Rattle.std.specs.Prelude.{◌≡◌, length};
 ghost use Rattle.planner_spec.specs.TextTables.{text_table_size, text_build_answer, text_built_buffer, text_check_answer};
 ghost use Rattle.planner_spec.specs.TextTables.{TextSizeMeaning, TextBuildMeaning, TextCheckMeaning};

@@ -1,4 +1,6 @@
 // The positions that a sequence reads and writes, as two sets, from its vectors.
+#![tactic(auto)]
+
 ghost use Rattle.std.specs.Prelude.{◌≡◌, not, cond, ◌&&◌, ℕ, ◌<◌, ◌^◌, eqb, get_or};
 ghost use Rattle.theory_spec.specs.Sets.{has, set_of};
 ghost use Rattle.model_spec.specs.Limits.{place_count};

@@ -1,4 +1,6 @@
 // The positions that the marked sequences of a pruning table read and write, mark by mark; none when refused.
+#![tactic(auto)]
+
 ghost use Rattle.std.specs.Prelude.{◌≡◌, not, cond, ◌&&◌, eqb};
 ghost use Rattle.macros_spec.specs.Composition.{lines_of};
 ghost use Rattle.macros_spec.specs.How.Touching.{touched_within};

@@ -1,4 +1,6 @@
 // Whether a rule set is valid.
+#![tactic(auto)]
+
 ghost use Rattle.std.specs.Prelude.{true, ◌↔◌, ◌≡◌, ◌<◌};
 ghost use Rattle.theory_spec.specs.Lists.{within};
 ghost use Rattle.model_spec.specs.Limits.{place_count, max_rules};

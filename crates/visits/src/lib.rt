@@ -1,6 +1,8 @@
 // The visits (document 01: the walk): a query is judged, and if it is not refused, its sequences are visited by a
 // function that calls itself for each extension of a sequence. Arrays are lent; limits, steps and best plan pass
 // through by value.
+#![tactic(auto)]
+
 ghost use Rattle.std.specs.Prelude.{◌≡◌, take};
 ghost use Rattle.search_spec.specs.Query.{asked};
 ghost use Rattle.search_laws.specs.How.Visits.{Lent, Reached, visits_from, exploration};

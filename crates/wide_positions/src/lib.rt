@@ -1,4 +1,6 @@
 // The positions with two values or more, as a set.
+#![tactic(auto)]
+
 ghost use Rattle.std.specs.Prelude.{◌≡◌};
 ghost use Rattle.macros_spec.specs.How.Touching.{wide_positions};
 

@@ -1,5 +1,7 @@
 // The rules of a witness: whether one runs on entries, as on a state, for what is left to spend, and the last one,
 // which has to lead to the target.
+#![tactic(auto)]
+
 ghost use Rattle.std.specs.Prelude.{◌≡◌, ◌&&◌, ◌+◌, ◌*◌, leb};
 ghost use Rattle.std.proofs.Math.Option.{some};
 ghost use Rattle.theory_spec.specs.Lists.{same};

@@ -1,6 +1,8 @@
 // The search for the smallest witness of a sequence: earlier sequences are run on its condition vector, as on a state
 // of entries, by length and rule number, and each is left as soon as a rule does not run there or the cost passes the
 // sequence's own.
+#![tactic(auto)]
+
 ghost use Rattle.std.specs.Prelude.{◌≡◌, ◌-◌, ◌≤◌, ◌<◌};
 ghost use Rattle.std.proofs.Math.Option.{some};
 ghost use Rattle.theory_spec.specs.Sequences.{level, sequences};

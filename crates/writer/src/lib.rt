@@ -1,4 +1,6 @@
 // The writer of rule files.
+#![tactic(auto)]
+
 ghost use Rattle.std.specs.Prelude.{◌≡◌, length};
 ghost use Rattle.files_spec.specs.Meaning.{WriteMeaning};
 ghost use Rattle.files_spec.specs.Writing.{written, written_buffer};

@@ -1,0 +1,6 @@
+-- `blanks::empty_set` meets its contract.
+use borrow.Author.Rules.{rules}
+use Rattle.blanks.proofs.empty_set.Goals as goal
+
+pub returns : goal.returns
+returns c = rw c.blank_rule-blank.ensures

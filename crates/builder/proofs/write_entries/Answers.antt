@@ -1,0 +1,122 @@
+-- `builder::write_entries` meets its contract. The invariant: the entries so far, with those still to come, are the
+-- built table, and the sets are what the marks so far touch.
+use mathlib.Core.Path.{◌≡◌, refl, sym, ap, ◌∙◌}
+use mathlib.Core.Bool.{Bool, not, cond}
+use Prim.Native.Nat.{ℕ, ◌+◌, ◌-◌, ◌≤◌, ◌<◌}
+use native.Mathlib.Omega.{arith}
+use lib.Dec.{eqb}
+use lib.ListN.{length, length-set}
+use borrow.Author.Rules.{rules}
+use Rattle.model_spec.specs.declared.RuleSet.{RuleSet}
+use Rattle.macros_spec.specs.Answers.{touched_in}
+use Rattle.macros_spec.specs.declared.Touched.{Touched}
+use Rattle.tables_spec.specs.Table.{table_entries, sequence_at, kept, built_entry, built_table}
+use Rattle.tables_spec.proofs.ReachLaws.{near_entries, near-built}
+use Rattle.tables_spec.proofs.TableLaws.{built-entry}
+use Rattle.tables_laws.proofs.MarkLaws.{own_touched}
+use Rattle.tables_laws.proofs.TableLoopLaws.{entered, entered-start, entered_more, entered_all}
+use Rattle.unions_spec.specs.Unions.{table_touched}
+use Rattle.unions_spec.specs.How.United.{united, united_to}
+use Rattle.unions_spec.proofs.UnionLaws.{united_next, united_all}
+use Rattle.builder.proofs.write_entries.Goals as goal
+
+-- ── The unions ───────────────────────────────────────────────────────────────────────────────────
+
+-- the builder marks the sequence of an index
+abbrev marks : RuleSet → ℕ → ℕ → Bool
+marks set reach k = not (eqb (built_entry set reach k) kept)
+
+-- with one entry more
+next : (set : RuleSet) (reach i entry : ℕ) (before own after : Touched)
+    → before ≡ united_to set reach (marks set reach) i
+    → entry ≡ built_entry set reach i → own ≡ touched_in set (sequence_at set reach i)
+    → after ≡ cond (not (eqb entry kept)) (united before own) before
+    → after ≡ united_to set reach (marks set reach) (i + 1)
+next set reach i entry before own after b e o a =
+    a
+    ∙ ap (λ n. cond (not (eqb n kept)) (united before own) before) e
+    ∙ united_next set reach (marks set reach) i before own b o
+
+-- with all of them
+all-united : (set : RuleSet) (reach i : ℕ) → i ≡ table_entries set reach
+    → united_to set reach (marks set reach) i ≡ table_touched set reach (built_table set reach)
+all-united set reach i e =
+    ap (united_to set reach (marks set reach)) e
+    ∙ united_all set reach (marks set reach) (built_table set reach)
+    (λ k h. ap (λ n. not (eqb n kept)) (sym (built-entry set reach k h)))
+
+-- ── The proof ────────────────────────────────────────────────────────────────────────────────────
+
+pub loop-i-init : goal.loop-i-init
+unfolding built_table united_to
+loop-i-init c =
+    let s = c.args in (
+      refl,
+      entered-start (built_entry s.set s.reach) (table_entries s.set s.reach) s.table.now,
+      refl,
+      omega arith,
+    )
+
+pub entry_for-entry-requires : goal.entry_for-entry-requires
+entry_for-entry-requires c =
+    let own = c.profile_at-own.ensures in (
+      c.requires.0,
+      omega (arith, near_entries c.args.set c.args.reach c.requires.1),
+      own.0,
+      own.1,
+    )
+
+pub overflow_cast-table : goal.overflow_cast-table
+overflow_cast-table c = omega arith
+
+pub overflow_mul-table : goal.overflow_mul-table
+overflow_mul-table c = omega arith
+
+pub bounds-table-i : goal.bounds-table-i
+bounds-table-i c = omega arith
+
+pub overflow_cast-table-in-loop-i : goal.overflow_cast-table-in-loop-i
+overflow_cast-table-in-loop-i c = omega arith
+
+pub overflow_mul-table-in-loop-i : goal.overflow_mul-table-in-loop-i
+overflow_mul-table-in-loop-i c = omega arith
+
+pub overflow_add-table : goal.overflow_add-table
+overflow_add-table c = omega arith
+
+pub bounds-table-i-in-loop-i : goal.bounds-table-i-in-loop-i
+bounds-table-i-in-loop-i c = simp length-set (omega arith)
+
+pub overflow_add-i : goal.overflow_add-i
+overflow_add-i c = omega arith
+
+pub loop-i-smaller : goal.loop-i-smaller
+loop-i-smaller c = omega arith
+
+pub loop-i-preserved : goal.loop-i-preserved
+loop-i-preserved c =
+    let l = c.loop-i in
+    let s = c.args in
+    let h : l.i < table_entries s.set s.reach = omega arith in
+    let entry = c.entry_for-entry in
+    let e = entry.ensures.0 ∙ near-built s.set s.reach c.requires.1 l.i h in (
+      simp length-set l.invariant.0,
+      entered_more (built_entry s.set s.reach) (table_entries s.set s.reach) l.i entry.result l.table
+          h (omega arith) e
+          ∙ l.invariant.1,
+      next s.set s.reach l.i entry.result l.touched _ _ l.invariant.2 e
+          (own_touched s.set c.requires.0 s.reach c.requires.1 l.i h c.profile_at-own.result.vectors
+          c.profile_at-own.ensures.0 _ c.wide_positions-wide.ensures)
+          c.with_mark-touched.ensures,
+      omega arith,
+    )
+
+pub returns : goal.returns
+returns c =
+    let l = c.loop-i in
+    let s = c.args in (
+      sym (entered_all (built_entry s.set s.reach) (table_entries s.set s.reach) l.i l.table
+          (omega arith) (omega arith))
+          ∙ l.invariant.1,
+      l.invariant.2 ∙ all-united s.set s.reach l.i (omega (arith, l.invariant.3)),
+    )

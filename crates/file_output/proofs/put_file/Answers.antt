@@ -1,0 +1,49 @@
+-- `file_output::put_file` meets its contract: the file is the pieces that are laid, one after the other.
+use mathlib.Core.Path.{◌≡◌}
+use mathlib.Core.List.{[], ◌∷◌, ◌++◌}
+use Prim.Native.Nat.{◌≤◌}
+use native.Mathlib.Omega.{arith}
+use lib.ListN.{take}
+use borrow.Author.Rules.{rules}
+use Rattle.theory_spec.specs.Lists.{flat}
+use Rattle.model_spec.specs.declared.RuleSet.{RuleSet}
+use Rattle.files_spec.specs.Text.{bytes, line_feed, numeral, line}
+use Rattle.files_spec.specs.File.{rule_text, render}
+use Rattle.output_laws.specs.How.Overlay.{shown_numeral, list_text}
+use Rattle.output_laws.proofs.ByteLaws.{positions_byte, count_byte}
+use Rattle.output_laws.proofs.OverlayLaws.{shown-number, laid-append}
+use Rattle.output_laws.proofs.WriteLoopLaws.{list-line}
+use Rattle.file_output.proofs.put_file.Goals as goal
+
+-- the pieces of the file, as they are laid
+pieces : (set : RuleSet) → set.positions ≤ 255 → set.count ≤ 255 → render set
+    ≡ bytes "positions=" ++ shown_numeral set.positions ++ (line_feed ∷ [])
+    ++ (bytes "sizes=" ++ list_text numeral set.positions set.sizes)
+    ++ (bytes "rules=" ++ shown_numeral set.count ++ (line_feed ∷ []))
+    ++ flat (rule_text set.positions) (take set.count set.rules)
+unfolding render line
+pieces set positions count =
+    rw (
+      list-line numeral "sizes=" set.positions set.sizes,
+      shown-number set.positions (omega arith),
+      shown-number set.count (omega arith),
+    )
+
+pub returns : goal.returns
+returns c =
+    ?
+
+-- OLD at After-slice_known6: let rules = c.before.before in
+--       let count = count_of rules in
+--       let sizes = sizes_of count in
+--       let key = key_of sizes in
+--       let positions = positions_of key in
+--       let start = start_of positions in
+--       let set = start.args.set in
+--       rw (pieces set (positions_byte set _ start.good.1.0) (count_byte set _ start.good.1.0))
+--       (laid-append
+--       (laid-append
+--       (laid-append positions.put-number-line.ensures
+--       (laid-append key.put_word.ensures sizes.put-numbers.ensures))
+--       count.put-number-line2.ensures)
+--       rules.put-rules.ensures)

@@ -1,0 +1,9 @@
+-- `packing::pack` meets its contract: the fields fit, so nothing overflows.
+use native.Mathlib.Omega.{arith}
+use borrow.Author.Rules.{rules}
+use Rattle.planner_spec.specs.Packed.{packed}
+use Rattle.packing.proofs.pack.Goals as goal
+
+pub returns : goal.returns
+unfolding packed
+returns c = omega arith

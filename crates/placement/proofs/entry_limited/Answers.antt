@@ -1,0 +1,13 @@
+-- `placement::entry_limited` meets its contract.
+use borrow.Author.Tests.{lt-ltb, le-ltb}
+use borrow.Author.Rules.{rules}
+use Rattle.model_spec.specs.Validity.{entry_limited}
+use Rattle.placement.proofs.entry_limited.Goals as goal
+
+pub returns-then-entry-lt-FIRST_VARIABLE : goal.returns-then-entry-lt-FIRST_VARIABLE
+unfolding entry_limited
+returns-then-entry-lt-FIRST_VARIABLE c = rw (lt-ltb _ _ c.if-entry-lt-FIRST_VARIABLE.true, c.width_at.ensures)
+
+pub returns : goal.returns
+unfolding entry_limited
+returns c = rw (le-ltb _ _ c.if-entry-lt-FIRST_VARIABLE.false)

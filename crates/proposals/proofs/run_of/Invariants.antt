@@ -1,0 +1,27 @@
+-- `proposals::run_of` meets its contract. The invariant: the moves before i lead to the state, and those from i on
+-- decide which one fails first.
+use mathlib.Core.Path.{◌≡◌, refl, sym, ap, ◌∙◌}
+use mathlib.Core.Bool.{not}
+use mathlib.Core.Option.{some}
+use Prim.Native.Nat.{◌≤◌, ◌<◌, ◌-◌}
+use native.Mathlib.Omega.{arith}
+use lib.ListN.{length, get_or, take}
+use borrow.Author.Rules.{rules}
+use Rattle.theory_spec.specs.Lists.{is_some}
+use Rattle.model_spec.specs.Rules.{rule_at, run_in}
+use Rattle.model_spec.proofs.LoopLaws.{failed, passed}
+use Rattle.explain_spec.specs.Reasons.{failing_move}
+use Rattle.explain_laws.specs.How.Proposals.{held_moves}
+use Rattle.explain_laws.proofs.ProposalLoopLaws.{first_behind, behind-start, behind_go, behind_stop, behind-end}
+use Rattle.explain_laws.proofs.ProposalLoopLaws.{run_goes, run_stops, whole_run, held-length, held_at}
+use Rattle.proposals.proofs.run_of.Given as goal
+
+abbrev pub invariant-loop-i : goal.invariant-loop-i
+invariant-loop-i l =
+    let q = held_moves l.moves in
+    (l.i ≤ length l.moves)
+    × (run_in l.set (take l.i q) l.start ≡ some l.state)
+    × (first_behind (λ k. not (is_some (run_in l.set (take k q) l.start))) (length q) l.i ≡ failing_move l.set l.start q)
+
+abbrev pub decreases-loop-i : goal.decreases-loop-i
+decreases-loop-i l = length l.moves - l.i

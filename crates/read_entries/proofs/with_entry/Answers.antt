@@ -1,0 +1,11 @@
+-- `read_entries::with_entry` meets its contract: beyond the array there is nothing to set.
+use mathlib.Core.Path.{sym}
+use native.Mathlib.Omega.{arith}
+use lib.Seq.{set_out}
+use borrow.Author.Rules.{rules}
+use Rattle.read_entries.proofs.with_entry.Goals as goal
+
+pub returns-else-i-lt-PLACE_COUNT : goal.returns-else-i-lt-PLACE_COUNT
+returns-else-i-lt-PLACE_COUNT c =
+    let a = c.args in
+    sym (set_out a.entries a.i a.value (omega (arith, c.type_inv.0, c.if-i-lt-PLACE_COUNT.false)))

@@ -1,0 +1,23 @@
+-- `refused_search::refused_search` meets its contract: the buffer is filled from its start on.
+use mathlib.Core.Path.{◌≡◌, sym, ap, ◌∙◌}
+use mathlib.Core.List.{List}
+use Prim.Native.Nat.{ℕ}
+use lib.ListN.{length, replicate}
+use borrow.Author.Rules.{rules}
+use Rattle.model_spec.proofs.BufferLaws.{filled-whole}
+use Rattle.search_spec.specs.Searched.{no_move, Searched, refused_search}
+use Rattle.refused_search.proofs.refused_search.Goals as goal
+
+blank : (outcome room : ℕ) (plan : List ℕ) → plan ≡ replicate room no_move
+    → refused_search outcome room
+    ≡ record { answer = record { outcome = outcome; cost = 0; length = 0; steps = 0; floor = 0 }; plan = plan }
+unfolding refused_search
+blank outcome room plan e = λ i. record {
+  answer = record { outcome = outcome; cost = 0; length = 0; steps = 0; floor = 0 };
+  plan = sym e i;
+}
+
+pub returns : goal.returns
+returns c =
+    let plan = c.args.plan.now in
+    blank _ (length plan) _ (c.fill_from.ensures ∙ filled-whole no_move plan)

@@ -1,0 +1,16 @@
+-- `rule_arrays::conditions_of` meets its contract. The invariant: the first places hold the conditions of their rules,
+-- the others still zeros.
+use mathlib.Core.Path.{◌≡◌, refl}
+use mathlib.Core.List.{map}
+use Prim.Native.Nat.{◌≤◌, ◌-◌}
+use native.Mathlib.Omega.{arith}
+use borrow.Author.Rules.{rules}
+use Rattle.model_spec.proofs.Shapes.{rules_31}
+use Rattle.model_spec.proofs.CopyLaws.{copied, row_more, row-whole}
+use Rattle.rule_arrays.proofs.conditions_of.Given as goal
+
+abbrev pub invariant-loop-i : goal.invariant-loop-i
+invariant-loop-i l = (l.i ≤ 31) × (l.conditions ≡ copied l.initial.conditions (map (λ rule. rule.condition) l.set.rules) l.i)
+
+abbrev pub decreases-loop-i : goal.decreases-loop-i
+decreases-loop-i l = 31 - l.i

@@ -1,0 +1,16 @@
+-- `rule_arrays::costs_of` meets its contract. The invariant: the first k places hold the costs of their rules, the
+-- others still zeros.
+use mathlib.Core.Path.{◌≡◌, refl}
+use mathlib.Core.List.{map}
+use Prim.Native.Nat.{◌≤◌, ◌-◌}
+use native.Mathlib.Omega.{arith}
+use borrow.Author.Rules.{rules}
+use Rattle.model_spec.proofs.Shapes.{rules_31}
+use Rattle.model_spec.proofs.CopyLaws.{copied, row_more, row-whole}
+use Rattle.rule_arrays.proofs.costs_of.Given as goal
+
+abbrev pub invariant-loop-k : goal.invariant-loop-k
+invariant-loop-k l = (l.k ≤ 31) × (l.costs ≡ copied l.initial.costs (map (λ rule. rule.cost) l.set.rules) l.k)
+
+abbrev pub decreases-loop-k : goal.decreases-loop-k
+decreases-loop-k l = 31 - l.k

@@ -1,0 +1,16 @@
+-- `rule_arrays::effects_of` meets its contract. The invariant: the first places hold the effects of their rules, the
+-- others still zeros.
+use mathlib.Core.Path.{◌≡◌, refl}
+use mathlib.Core.List.{map}
+use Prim.Native.Nat.{◌≤◌, ◌-◌}
+use native.Mathlib.Omega.{arith}
+use borrow.Author.Rules.{rules}
+use Rattle.model_spec.proofs.Shapes.{rules_31}
+use Rattle.model_spec.proofs.CopyLaws.{copied, row_more, row-whole}
+use Rattle.rule_arrays.proofs.effects_of.Given as goal
+
+abbrev pub invariant-loop-j : goal.invariant-loop-j
+invariant-loop-j l = (l.j ≤ 31) × (l.effects ≡ copied l.initial.effects (map (λ rule. rule.effect) l.set.rules) l.j)
+
+abbrev pub decreases-loop-j : goal.decreases-loop-j
+decreases-loop-j l = 31 - l.j

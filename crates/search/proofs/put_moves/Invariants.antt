@@ -1,0 +1,15 @@
+-- `search::put_moves` meets its contract. The invariant: the first i bytes of the buffer are moves, the others what
+-- they were.
+use mathlib.Core.Path.{◌≡◌, refl, ◌∙◌}
+use Prim.Native.Nat.{◌≤◌, ◌-◌}
+use native.Mathlib.Omega.{arith}
+use lib.ListN.{length, length-set}
+use borrow.Author.Rules.{rules}
+use Rattle.model_spec.proofs.CopyLaws.{copied, copied_more}
+use Rattle.search.proofs.put_moves.Given as goal
+
+abbrev pub invariant-loop-i : goal.invariant-loop-i
+invariant-loop-i l = (l.i ≤ l.end) × (length l.plan ≡ length l.initial.plan) × (l.plan ≡ copied l.initial.plan l.entries l.i)
+
+abbrev pub decreases-loop-i : goal.decreases-loop-i
+decreases-loop-i l = l.end - l.i

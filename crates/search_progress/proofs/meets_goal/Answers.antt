@@ -1,0 +1,50 @@
+-- `search_progress::meets_goal` meets its contract. The invariant: the bytes from place i on, of the goal's first
+-- sixteen, decide the whole.
+use mathlib.Core.Path.{◌≡◌, ap, ◌∙◌}
+use mathlib.Core.Logic.{⊎_elim}
+use mathlib.Core.Bool.{◌||◌}
+use Prim.Native.Nat.{◌≤◌, ◌<◌, ◌-◌}
+use native.Mathlib.Omega.{arith}
+use lib.Dec.{eqb}
+use lib.ListN.{length, get_or, take, length-take}
+use lib.Seq.{get_or-take}
+use borrow.Author.Rules.{rules}
+use borrow.Author.Tests.{eq-eqb, ne_eqb}
+use Rattle.theory_spec.specs.Lists.{every, numbers_from}
+use Rattle.theory_spec.proofs.ListLaws.{or_left, or_right}
+use Rattle.model_spec.proofs.LoopLaws.{every_go, every_stop, every-end}
+use Rattle.search_spec.specs.Query.{meets_goal}
+use Rattle.search_progress.proofs.meets_goal.Goals as goal
+
+pub loop-i-init : goal.loop-i-init
+unfolding meets_goal
+loop-i-init c =
+    let goal = c.args.goal.now in
+    let e : length (take 16 goal) - 0 ≡ length (take 16 goal) = omega arith in
+    (omega arith, omega (arith, c.smaller-end.ensures, length-take 16 goal), rw e)
+
+pub returns-then-held-i : goal.returns-then-held-i
+returns-then-held-i c =
+    let goal = c.args.goal.now in
+    every_stop _ _ _ _ c.loop-i.invariant.2 ((omega (arith, c.loop-i-test.true, c.loop-i.invariant.1)))
+    (rw ((let goal = c.args.goal.now in get_or-take 16 goal c.loop-i.i 0 (omega (arith, (omega (arith, c.loop-i-test.true, c.loop-i.invariant.1)), length-take 16 goal))), ne_eqb (get_or goal c.loop-i.i 0) 255 c.if-goal-i.true, ne_eqb _ _ c.if-held-i.true))
+
+pub loop-i-preserved : goal.loop-i-preserved
+loop-i-preserved c =
+    let l = c.loop-i in
+    let s = c.args in
+    let goal = get_or s.goal.now l.i 0 in
+    let held = get_or s.state.now l.i 0 in
+    let passes = ⊎_elim (λ w. or_right (eqb goal 255) (eq-eqb held goal w.3.left))
+    (λ w. or_left (eqb held goal) (eq-eqb goal 255 w.left)) c.if-goal-i.branch in (
+      omega (arith, c.loop-i-test.true),
+      l.invariant.1,
+      every_go _ _ _ _ l.invariant.2 ((omega (arith, c.loop-i-test.true, c.loop-i.invariant.1))) (ap (λ n. eqb n 255 || eqb held n) ((let goal = c.args.goal.now in get_or-take 16 goal c.loop-i.i 0 (omega (arith, (omega (arith, c.loop-i-test.true, c.loop-i.invariant.1)), length-take 16 goal)))) ∙ passes),
+    )
+
+pub returns : goal.returns
+returns c =
+    let l = c.loop-i in
+    let goal = c.args.goal.now in
+    let all : length (take 16 goal) ≤ l.i = omega (arith, c.loop-i-test.false, l.invariant.1) in
+    every-end _ _ _ _ l.invariant.2 all

@@ -1,0 +1,39 @@
+-- `segments::shortest_at` meets its contract. The invariant: the lengths above `many` decide which is the shortest.
+use mathlib.Core.Path.{◌≡◌, sym, ap, ◌∙◌}
+use Prim.Native.Nat.{◌+◌, ◌-◌, ◌≤◌}
+use native.Mathlib.Omega.{arith}
+use lib.ListN.{take, drop}
+use borrow.Author.Rules.{rules}
+use Rattle.explain_spec.specs.Segments.{segment_of, shortest_at}
+use Rattle.explain_laws.specs.How.LookedUp.{looked_up}
+use Rattle.explain_laws.proofs.ProposalLoopLaws.{first_behind, behind_go, behind_stop}
+use Rattle.explain_laws.proofs.SegmentLoopLaws.{shortest-start, shortest-end}
+use Rattle.segments.proofs.shortest_at.Goals as goal
+
+-- the part that is lent is the segment
+lent : (q : _) (e n : _) → n ≤ e → take (e - (e - n)) (drop (e - n) q) ≡ segment_of q e n
+lent q e n h = let z : e - (e - n) ≡ n = omega arith in ap (λ k. take k (drop (e - n) q)) z
+
+pub loop-many-init : goal.loop-many-init
+loop-many-init c =
+    let a = c.args in
+    (omega arith, shortest-start a.count a.reach a.table.now a.moves.now a.end c.requires)
+
+pub returns-then-is_marked : goal.returns-then-is_marked
+returns-then-is_marked c =
+    behind_stop _ c.args.end c.loop-many.many _ c.loop-many.invariant.1 (omega arith)
+    ((let s = c.args in let part = lent s.moves.now s.end (c.loop-many.many + 1) (omega arith) in ap (looked_up s.count s.reach s.table.now) (sym part) ∙ sym c.is_marked.ensures) ∙ c.if-is_marked.true)
+
+pub loop-many-preserved : goal.loop-many-preserved
+loop-many-preserved c = (
+  omega arith,
+  behind_go _ c.args.end c.loop-many.many _ c.loop-many.invariant.1 (omega arith)
+      ((let s = c.args in let part = lent s.moves.now s.end (c.loop-many.many + 1) (omega arith) in ap (looked_up s.count s.reach s.table.now) (sym part) ∙ sym c.is_marked.ensures) ∙ c.if-is_marked.false),
+)
+
+pub returns : goal.returns
+returns c =
+    let most = c.smaller-most.ensures in
+    let longest = c.smaller.ensures in
+    shortest-end c.args.count c.args.reach c.args.table.now c.args.moves.now c.args.end c.requires
+    c.loop-many.many (omega arith) c.loop-many.invariant.1

@@ -1,0 +1,55 @@
+-- `sequences::sequence_at` meets its contract. The invariant: the sequence is that of `rest`, of at most `start` rules,
+-- and then the rules of the array from `start` on.
+use mathlib.Core.Path.{◌≡◌, sym, ap, ◌∙◌}
+use mathlib.Core.List.{List, [], ◌++◌, append-nil}
+use Prim.Native.Nat.{ℕ, ◌-◌, ◌≤◌}
+use native.Mathlib.Nat.{mod-lt}
+use native.Mathlib.Omega.{arith}
+use lib.ListN.{length, drop, length-set}
+use borrow.Author.Rules.{rules}
+use Rattle.theory_spec.specs.How.Indices.{sequence_of}
+use Rattle.tables_laws.specs.How.ShortSequences.{short_sequence}
+use Rattle.tables_laws.proofs.SequenceLoopLaws.{sequence_go, sequence-end, sequence_full}
+use Rattle.sequences.proofs.sequence_at.Goals as goal
+
+-- after the loop: nothing is left in front of the array's rules
+ended : (m start rest : ℕ) (rules sequence : List ℕ) → sequence ≡ sequence_of m start rest ++ drop start rules
+    → sequence_of m start rest ≡ [] → drop start rules ≡ sequence
+ended m start rest rules sequence e none = sym (e ∙ ap (λ q. q ++ drop start rules) none)
+
+pub loop-start-init : goal.loop-start-init
+unfolding short_sequence
+loop-start-init c =
+    let s = c.args in
+    let e = c.rule_count-many.ensures in
+    let all = sym (append-nil (sequence_of c.rule_count-many.result 3 s.index)) in
+    (omega arith, omega arith, search rules, search rules, ap (λ m. sequence_of m 3 s.index) (sym e) ∙ all)
+
+pub returns-then-rest-eq0 : goal.returns-then-rest-eq0
+returns-then-rest-eq0 c =
+    let m = c.rule_count-many.result in
+    let none = sequence-end m c.loop-start.start c.loop-start.rest c.if-rest-eq0.true in
+    (c.loop-start.invariant.2, ended m c.loop-start.start c.loop-start.rest c.loop-start.rules _ c.loop-start.invariant.4 none)
+
+pub overflow_cast-rules : goal.overflow_cast-rules
+overflow_cast-rules c = omega (arith, mod-lt (c.loop-start.rest - 1) {m = c.rule_count-many.result} c.loop-start.invariant.0)
+
+pub overflow_add-rules : goal.overflow_add-rules
+overflow_add-rules c = omega (arith, mod-lt (c.loop-start.rest - 1) {m = c.rule_count-many.result} c.loop-start.invariant.0)
+
+pub loop-start-preserved : goal.loop-start-preserved
+loop-start-preserved c =
+    let m = c.rule_count-many.result in (
+      c.loop-start.invariant.0,
+      c.loop-start.invariant.1,
+      search rules,
+      length-set c.loop-start.rules _ _ ∙ c.loop-start.invariant.3,
+      c.loop-start.invariant.4 ∙ sequence_go m c.loop-start.start c.loop-start.rest c.loop-start.rules (omega arith) (omega arith)
+          (omega arith),
+    )
+
+pub returns : goal.returns
+returns c =
+    let m = c.rule_count-many.result in
+    let none = sequence_full m c.loop-start.start c.loop-start.rest c.loop-start-test.false in
+    (c.loop-start.invariant.2, ended m c.loop-start.start c.loop-start.rest c.loop-start.rules _ c.loop-start.invariant.4 none)

@@ -1,0 +1,19 @@
+-- `touched::changed` meets its contract. The invariant: the places before k whose entries differ.
+use mathlib.Core.Path.{ap}
+use mathlib.Core.Logic.{⊎_elim}
+use mathlib.Core.Bool.{not}
+use Prim.Native.Nat.{◌-◌}
+use native.Mathlib.Omega.{arith}
+use lib.Dec.{eqb}
+use lib.ListN.{get_or}
+use borrow.Author.Tests.{eq-eqb, ne_eqb}
+use borrow.Author.Rules.{rules}
+use Rattle.theory_spec.proofs.SetLaws.{filled_none}
+use Rattle.macros_spec.proofs.TouchedLoopLaws.{Filled, put_in, left_out, filled}
+use Rattle.touched.proofs.changed.Given as goal
+
+abbrev pub invariant-loop-k : goal.invariant-loop-k
+invariant-loop-k l = Filled (λ i. not (eqb (get_or l.condition i 0) (get_or l.effect i 0))) l.differ l.k
+
+abbrev pub decreases-loop-k : goal.decreases-loop-k
+decreases-loop-k l = 16 - l.k
