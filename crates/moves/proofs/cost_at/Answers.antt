@@ -1,16 +1,14 @@
 -- `moves::cost_at` meets its contract: past the last of the 31 rules the definition reads a cost of 0.
 use mathlib.Core.Path.{sym, ap, ◌∙◌}
 use native.Mathlib.Omega.{arith}
-use borrow.Author.Rules.{rules}
 use Rattle.model_spec.specs.declared.Rule.{Rule}
-use Rattle.model_spec.proofs.Shapes.{rules_31}
 use Rattle.model_spec.proofs.MoveLaws.{rule_among, no-rule_cost}
 use Rattle.moves.proofs.cost_at.Goals as goal
 
 pub returns-then-number-gt-MAX_RULES : goal.returns-then-number-gt-MAX_RULES
 returns-then-number-gt-MAX_RULES c =
     let s = c.args in
-    sym (no-rule_cost s.set s.number (rules_31 s.set _ c.type_inv.0) c.if-number-gt-MAX_RULES.true)
+    sym (no-rule_cost s.set s.number (omega arith) c.if-number-gt-MAX_RULES.true)
 
 pub returns : goal.returns
 returns c =

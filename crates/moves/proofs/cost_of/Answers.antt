@@ -1,10 +1,7 @@
 -- `moves::cost_of` meets its contract. The invariant: the total plus the cost of the moves left is the whole cost.
-use mathlib.Core.Path.{◌≡◌, refl}
-use Prim.Native.Nat.{◌+◌, ◌≤◌, ◌-◌}
+use mathlib.Core.Path.{refl}
 use native.Mathlib.Omega.{arith}
-use lib.ListN.{length, drop}
 use borrow.Author.Rules.{rules}
-use Rattle.model_spec.specs.Rules.{sequence_cost}
 use Rattle.macros_spec.proofs.MoveLoopLaws.{cost_go, cost-end}
 use Rattle.moves.proofs.cost_of.Goals as goal
 

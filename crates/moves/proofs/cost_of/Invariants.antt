@@ -1,11 +1,8 @@
 -- `moves::cost_of` meets its contract. The invariant: the total plus the cost of the moves left is the whole cost.
-use mathlib.Core.Path.{◌≡◌, refl}
+use mathlib.Core.Path.{◌≡◌}
 use Prim.Native.Nat.{◌+◌, ◌≤◌, ◌-◌}
-use native.Mathlib.Omega.{arith}
 use lib.ListN.{length, drop}
-use borrow.Author.Rules.{rules}
 use Rattle.model_spec.specs.Rules.{sequence_cost}
-use Rattle.macros_spec.proofs.MoveLoopLaws.{cost_go, cost-end}
 use Rattle.moves.proofs.cost_of.Given as goal
 
 abbrev pub invariant-loop-i : goal.invariant-loop-i

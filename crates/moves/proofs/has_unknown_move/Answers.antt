@@ -1,11 +1,7 @@
 -- `moves::has_unknown_move` meets its contract. The invariant: the moves from i on decide the whole.
-use mathlib.Core.Path.{◌≡◌, refl}
-use mathlib.Core.Bool.{not}
-use Prim.Native.Nat.{◌≤◌, ◌-◌}
+use mathlib.Core.Path.{refl}
 use native.Mathlib.Omega.{arith}
-use lib.ListN.{length, drop}
 use borrow.Author.Rules.{rules}
-use Rattle.theory_spec.specs.Lists.{any, within}
 use Rattle.macros_spec.proofs.MoveLoopLaws.{unknown_go, unknown-found, unknown_none}
 use Rattle.moves.proofs.has_unknown_move.Goals as goal
 

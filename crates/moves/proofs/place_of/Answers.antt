@@ -1,6 +1,5 @@
 -- `moves::place_of` meets its contract: by cases on the number.
 use native.Mathlib.Omega.{arith}
-use borrow.Author.Rules.{rules}
 use Rattle.moves.proofs.place_of.Goals as goal
 
 pub returns-then-number-lt1 : goal.returns-then-number-lt1

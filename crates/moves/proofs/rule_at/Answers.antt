@@ -1,7 +1,4 @@
 -- `moves::rule_at` meets its contract: the definition reads the same place.
-use mathlib.Core.Path.{refl}
-use native.Mathlib.Omega.{arith}
-use borrow.Author.Rules.{rules}
 use Rattle.model_spec.specs.Rules.{rule_at}
 use Rattle.moves.proofs.rule_at.Goals as goal
 
