@@ -1,14 +1,12 @@
 -- `duplicates::duplicate` meets its contract: each return by the tests on the way to it.
-use mathlib.Core.Path.{◌≡◌}
+use mathlib.Core.Path.{◌≡◌, sym, ◌∙◌}
 use mathlib.Core.Logic.{◌≢◌}
-use mathlib.Core.Bool.{Bool, true, false, not}
+use mathlib.Core.Bool.{Bool, true, false}
 use native.Mathlib.Omega.{arith}
 use borrow.Author.Tests.{eq-eqb, ne_eqb}
-use borrow.Author.Rules.{rules}
 use Rattle.theory_spec.specs.Lists.{same}
 use Rattle.model_spec.specs.Validity.{duplicate}
 use Rattle.model_spec.specs.declared.Rule.{Rule}
-use Rattle.model_spec.proofs.LoopLaws.{failed, passed}
 use Rattle.duplicates.proofs.duplicate.Goals as goal
 
 -- the tests in turn: costs, conditions, effects
@@ -18,14 +16,14 @@ module _ (a b : Rule) where
   other-cost n = rw (ne_eqb _ _ n)
 
   module _ (costs : a.cost ≡ b.cost) {conditions : Bool} (e : conditions ≡ same a.condition b.condition) where
-    other-condition : not conditions ≡ true → false ≡ duplicate a b
+    other-condition : conditions ≡ false → false ≡ duplicate a b
     unfolding duplicate
-    other-condition n = rw (eq-eqb _ _ costs, failed e n)
+    other-condition n = rw (eq-eqb _ _ costs, sym e ∙ n)
 
-    by-effects : not conditions ≡ false → {effects : Bool} → effects ≡ same a.effect b.effect
+    by-effects : conditions ≡ true → {effects : Bool} → effects ≡ same a.effect b.effect
         → effects ≡ duplicate a b
     unfolding duplicate
-    by-effects n f = rw (eq-eqb _ _ costs, passed e n) f
+    by-effects n f = rw (eq-eqb _ _ costs, sym e ∙ n) f
 
 pub returns-then-a-b : goal.returns-then-a-b
 returns-then-a-b c = let s = c.args in other-cost s.a s.b (omega (arith, c.if-a-b.true))
@@ -33,10 +31,10 @@ returns-then-a-b c = let s = c.args in other-cost s.a s.b (omega (arith, c.if-a-
 pub returns-then-not-same_entries : goal.returns-then-not-same_entries
 returns-then-not-same_entries c =
     let s = c.args in
-    other-condition s.a s.b (omega (arith, c.if-a-b.left)) c.same_entries.ensures c.if-not-same_entries.true-raw
+    other-condition s.a s.b (omega (arith, c.if-a-b.false)) c.same_entries.ensures c.if-not-same_entries.true
 
 pub returns : goal.returns
 returns c =
     let s = c.args in
-    by-effects s.a s.b (omega (arith, c.if-a-b.left)) c.same_entries.ensures c.if-not-same_entries.false-raw
+    by-effects s.a s.b (omega (arith, c.if-a-b.false)) c.same_entries.ensures c.if-not-same_entries.false
     c.same_entries-2.ensures

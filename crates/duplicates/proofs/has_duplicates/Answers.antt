@@ -1,10 +1,9 @@
 -- `duplicates::has_duplicates` meets its contract.
 -- The invariant: the tests of the rules from place k on decide the whole.
-use mathlib.Core.Path.{◌≡◌, sym, ◌∙◌}
-use Prim.Native.Nat.{min, ◌≤◌, ◌-◌}
+use mathlib.Core.Path.{sym, ◌∙◌}
+use Prim.Native.Nat.{min}
 use native.Mathlib.Omega.{arith}
 use borrow.Author.Rules.{rules}
-use Rattle.theory_spec.specs.Lists.{any, numbers_from}
 use Rattle.model_spec.specs.Validity.{repeated, has_duplicates}
 use Rattle.model_spec.proofs.LoopLaws.{any-start, any_go, any_stop, any-end}
 use Rattle.duplicates.proofs.has_duplicates.Goals as goal
