@@ -1,17 +1,18 @@
 -- `rule_validity::effect_valid` meets its contract. The invariant: the tests of the places from i on decide the whole.
 use mathlib.Core.Path.{◌≡◌}
-use native.Mathlib.Omega.{arith}
 use Prim.Native.Nat.{ℕ, ◌≤◌, ◌-◌}
 use mathlib.Core.Bool.{Bool, ◌&&◌}
 use mathlib.Core.List.{List}
 use lib.ListN.{get_or}
-use borrow.Author.Rules.{rules}
 use Rattle.theory_spec.specs.Lists.{every, numbers_from}
-use Rattle.theory_spec.proofs.ListLaws.{and_join}
 use Rattle.model_spec.specs.Validity.{entry_limited, effect_placed, effect_valid}
-use Rattle.model_spec.proofs.LoopLaws.{failed, passed, every_go, every_stop, every-end, sized, first_fails}
-use Rattle.model_spec.proofs.LoopLaws.{second_fails}
 use Rattle.rule_validity.proofs.effect_valid.Given as goal
+
+-- the test of place i
+abbrev pub test : ℕ → List ℕ → List ℕ → List ℕ → ℕ → Bool
+test positions sizes condition effect i =
+    entry_limited positions sizes i (get_or effect i 0)
+    && effect_placed positions sizes condition i (get_or effect i 0)
 
 abbrev pub invariant-loop-i : goal.invariant-loop-i
 invariant-loop-i l =

@@ -1,5 +1,5 @@
 -- `rule_validity::rule_valid` meets its contract. A cost is a byte, so it is at most 255.
-use mathlib.Core.Path.{◌≡◌}
+use mathlib.Core.Path.{◌≡◌, sym, ◌∙◌}
 use mathlib.Core.Bool.{Bool, true, false}
 use mathlib.Core.List.{List}
 use Prim.Native.Nat.{ℕ, ◌≤◌}
@@ -7,7 +7,6 @@ use borrow.Author.Tests.{le-leb}
 use borrow.Author.Rules.{rules}
 use Rattle.model_spec.specs.Validity.{condition_valid, effect_valid, rule_valid}
 use Rattle.model_spec.specs.declared.Rule.{Rule}
-use Rattle.model_spec.proofs.LoopLaws.{failed, passed}
 use Rattle.rule_validity.proofs.rule_valid.Goals as goal
 
 -- the answer by the two lines
@@ -25,10 +24,10 @@ pub returns-then-not-condition_valid : goal.returns-then-not-condition_valid
 returns-then-not-condition_valid c =
     let s = c.args in
     not-condition s.positions s.sizes.now s.rule (search rules)
-    (failed c.condition_valid.ensures c.if-not-condition_valid.true-raw)
+    (sym c.condition_valid.ensures ∙ c.if-not-condition_valid.true)
 
 pub returns : goal.returns
 returns c =
     let s = c.args in
     by-effect s.positions s.sizes.now s.rule (search rules) _
-    (passed c.condition_valid.ensures c.if-not-condition_valid.false-raw) c.effect_valid.ensures
+    (sym c.condition_valid.ensures ∙ c.if-not-condition_valid.false) c.effect_valid.ensures
