@@ -1,14 +1,12 @@
 -- `validity::is_valid` meets its contract. A well-formed set has at most 31 rules; the test passes exactly if the set
 -- is valid.
-use mathlib.Core.Path.{◌≡◌, ap, subst, sym}
+use mathlib.Core.Path.{◌≡◌, ap, subst, sym, ◌∙◌}
 use mathlib.Core.Logic.{◌↔◌}
 use mathlib.Core.Bool.{Bool, true, false, not}
 use Prim.Native.Nat.{min}
 use native.Mathlib.Omega.{arith}
-use borrow.Author.Rules.{rules}
 use Rattle.model_spec.specs.Validity.{has_duplicates, well_formed, valid, Valid}
 use Rattle.model_spec.specs.declared.RuleSet.{RuleSet}
-use Rattle.model_spec.proofs.LoopLaws.{failed, passed}
 use Rattle.model_spec.proofs.CheckLaws.{formed_31}
 use Rattle.model_spec.proofs.ValidityLaws.{valid_iff}
 use Rattle.validity.proofs.is_valid.Goals as goal
@@ -32,16 +30,10 @@ module _ (set : RuleSet) where
 
 pub returns-then-not-well_formed : goal.returns-then-not-well_formed
 returns-then-not-well_formed c =
-    ?
-
--- OLD at Then1: let set = c.before.before.args.set in
---       answers set _ (not-formed set (failed c.before.well-formed-2.ensures c.if1.true))
+    let set = c.args.set in
+    answers set _ (not-formed set (sym c.well_formed-2.ensures ∙ c.if-not-well_formed.true))
 
 pub returns : goal.returns
 returns c =
-    ?
-
--- OLD at After-has_duplicates: let branch = c.before in
---       let set = branch.before.before.args.set in
---       let t = passed branch.before.well-formed-2.ensures branch.if1.false in
---       answers set _ (formed set _ t c.has-duplicates.ensures)
+    let set = c.args.set in
+    answers set _ (formed set _ (sym c.well_formed-2.ensures ∙ c.if-not-well_formed.false) c.has_duplicates.ensures)

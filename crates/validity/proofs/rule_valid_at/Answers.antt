@@ -1,6 +1,5 @@
 -- `validity::rule_valid_at` meets its contract.
 use borrow.Author.Tests.{lt-ltb, le-ltb}
-use borrow.Author.Rules.{rules}
 use Rattle.model_spec.specs.Validity.{rule_valid_at}
 use Rattle.validity.proofs.rule_valid_at.Goals as goal
 

@@ -1,12 +1,8 @@
 -- `validity::rules_valid` meets its contract. The invariant: the tests of the rules from place k on decide the whole.
 use mathlib.Core.Path.{◌≡◌}
 use Prim.Native.Nat.{◌≤◌, ◌-◌}
-use native.Mathlib.Omega.{arith}
-use borrow.Author.Rules.{rules}
 use Rattle.theory_spec.specs.Lists.{every, numbers_from}
 use Rattle.model_spec.specs.Validity.{rule_valid_at, rules_valid}
-use Rattle.model_spec.proofs.LoopLaws.{failed, passed, every_go, every_stop, every-end, sized}
-use Rattle.model_spec.proofs.Shapes.{rules_31}
 use Rattle.validity.proofs.rules_valid.Given as goal
 
 abbrev pub invariant-loop-k : goal.invariant-loop-k

@@ -1,6 +1,5 @@
 -- `validity::size_valid` meets its contract.
 use borrow.Author.Tests.{lt-ltb, le-ltb}
-use borrow.Author.Rules.{rules}
 use Rattle.model_spec.specs.Validity.{size_valid}
 use Rattle.validity.proofs.size_valid.Goals as goal
 

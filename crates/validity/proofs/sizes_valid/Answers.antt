@@ -1,11 +1,9 @@
 -- `validity::sizes_valid` meets its contract. The invariant: the tests of the places from i on decide the whole.
-use mathlib.Core.Path.{◌≡◌}
-use Prim.Native.Nat.{◌≤◌, ◌-◌}
+use mathlib.Core.Path.{sym, ◌∙◌}
 use native.Mathlib.Omega.{arith}
 use borrow.Author.Rules.{rules}
-use Rattle.theory_spec.specs.Lists.{every, numbers_from}
 use Rattle.model_spec.specs.Validity.{size_valid, sizes_valid}
-use Rattle.model_spec.proofs.LoopLaws.{failed, passed, every_go, every_stop, every-end, sized}
+use Rattle.model_spec.proofs.LoopLaws.{every_go, every_stop, every-end, sized}
 use Rattle.validity.proofs.sizes_valid.Goals as goal
 
 pub loop-i-init : goal.loop-i-init
@@ -17,7 +15,7 @@ returns-then-not-size_valid c =
     let s = c.args in
     let l = c.loop-i in
     every_stop (size_valid s.positions s.sizes.now) l.i 16 _ l.invariant.1 (omega arith)
-    (failed c.size_valid.ensures c.if-not-size_valid.true-raw)
+    (sym c.size_valid.ensures ∙ c.if-not-size_valid.true)
 
 pub loop-i-preserved : goal.loop-i-preserved
 loop-i-preserved c =
@@ -25,7 +23,7 @@ loop-i-preserved c =
     let l = c.loop-i in (
       search rules,
       every_go (size_valid s.positions s.sizes.now) l.i 16 _ l.invariant.1 (omega arith)
-          (passed c.size_valid.ensures c.if-not-size_valid.false-raw),
+          (sym c.size_valid.ensures ∙ c.if-not-size_valid.false),
     )
 
 pub returns : goal.returns

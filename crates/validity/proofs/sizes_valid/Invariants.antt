@@ -1,11 +1,8 @@
 -- `validity::sizes_valid` meets its contract. The invariant: the tests of the places from i on decide the whole.
 use mathlib.Core.Path.{◌≡◌}
 use Prim.Native.Nat.{◌≤◌, ◌-◌}
-use native.Mathlib.Omega.{arith}
-use borrow.Author.Rules.{rules}
 use Rattle.theory_spec.specs.Lists.{every, numbers_from}
 use Rattle.model_spec.specs.Validity.{size_valid, sizes_valid}
-use Rattle.model_spec.proofs.LoopLaws.{failed, passed, every_go, every_stop, every-end, sized}
 use Rattle.validity.proofs.sizes_valid.Given as goal
 
 abbrev pub invariant-loop-i : goal.invariant-loop-i
