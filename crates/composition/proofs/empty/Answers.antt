@@ -1,7 +1,6 @@
 -- `composition::empty` meets its contract: both vectors are what `own_variables` gives, and so have their meaning.
 use mathlib.Core.Path.{sym, ap, subst}
 use mathlib.Core.Option.{some}
-use borrow.Author.Rules.{rules}
 use Rattle.macros_spec.specs.Composition.{empty_lines, as_vectors}
 use Rattle.macros_spec.specs.VectorMeaning.{EmptyMeaning}
 use Rattle.macros_spec.proofs.VectorMeaningLaws.{empty_meaning}

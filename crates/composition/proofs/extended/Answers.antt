@@ -3,7 +3,6 @@
 use mathlib.Core.Path.{◌≡◌, sym, ap, ◌∙◌, subst}
 use mathlib.Core.Bool.{true}
 use mathlib.Core.Option.{Option, some}
-use borrow.Author.Rules.{rules}
 use borrow.Author.Tests.{not-true, not-false}
 use Rattle.model_spec.specs.States.{values_of}
 use Rattle.model_spec.specs.declared.Rule.{Rule}
@@ -35,7 +34,7 @@ pub returns-then-not-met : goal.returns-then-not-met
 returns-then-not-met c =
     let a = c.args in
     found a.sequence a.rule _ _ c.denied-then-not-met.ensures
-    (extend-clash a.rule a.sequence (not-false _ c.if-not-sequence.left) c.unified-met.result c.unified-met.ensures
+    (extend-clash a.rule a.sequence (not-false _ c.if-not-sequence.false) c.unified-met.result c.unified-met.ensures
     (not-true _ c.if-not-met.true))
 
 pub returns : goal.returns
@@ -49,4 +48,4 @@ returns c =
     let kept : longer.admitted ≡ true = c.followed.ensures.0 ∙ admitted in
     found a.sequence a.rule _ (some (record { condition = met.condition; effect = longer.effect }))
     (λ i. record { admitted = kept i; condition = same i; effect = longer.effect })
-    (extend_met a.rule a.sequence (not-false _ c.if-not-sequence.left) met c.unified-met.ensures _ admitted reached)
+    (extend_met a.rule a.sequence (not-false _ c.if-not-sequence.false) met c.unified-met.ensures _ admitted reached)

@@ -1,18 +1,14 @@
 -- `composition::followed` meets its contract. The invariant: the first i places of the effect, and what the rule's
 -- other entries stand for, are the whole.
-use mathlib.Core.Path.{◌≡◌, refl}
-use mathlib.Core.List.{◌++◌}
-use Prim.Native.Nat.{◌≤◌, ◌-◌}
+use mathlib.Core.Path.{refl}
 use native.Mathlib.Omega.{arith}
-use lib.ListN.{length, take, drop}
 use borrow.Author.Rules.{rules}
-use Rattle.model_spec.specs.States.{value_of, values_of}
+use Rattle.model_spec.specs.States.{value_of}
 use Rattle.macros_spec.proofs.CompositionLoopLaws.{follow_go, follow-end}
-use Rattle.macros_spec.proofs.VectorsShape.{effect_16}
 use Rattle.composition.proofs.followed.Goals as goal
 
 pub loop-i-init : goal.loop-i-init
-loop-i-init c = (search rules, refl, refl, effect_16 c.args.t1 _ c.type_inv.0, refl)
+loop-i-init c = (search rules, refl, refl, search rules, refl)
 
 pub loop-i-preserved : goal.loop-i-preserved
 unfolding value_of
@@ -23,7 +19,7 @@ loop-i-preserved c =
       l.invariant.1,
       l.invariant.2,
       search rules,
-      follow_go a.t2 a.t1.effect l.i l.sequence.effect _ l.invariant.4 _ c.stands_for.ensures
+      follow_go a.last a.sequence.effect l.i l.sequence.effect _ l.invariant.4 _ c.stands_for.ensures
           (search rules) (omega (arith, l.invariant.3)),
     )
 
@@ -33,6 +29,6 @@ returns c =
     let a = c.args in (
       l.invariant.1,
       l.invariant.2,
-      follow-end a.t2 a.t1.effect l.i l.sequence.effect _ l.invariant.4 (search rules)
+      follow-end a.last a.sequence.effect l.i l.sequence.effect _ l.invariant.4 (search rules)
           (omega (arith, l.invariant.3)),
     )

@@ -2,13 +2,12 @@
 -- are the whole; the others still hold 0.
 use mathlib.Core.Path.{◌≡◌, refl, sym, ap, ◌∙◌}
 use mathlib.Core.Bool.{cond}
-use mathlib.Core.List.{List, ◌++◌, map}
-use Prim.Native.Nat.{ℕ, ◌+◌, ◌≤◌, ◌<◌, ◌-◌}
+use mathlib.Core.List.{List}
+use Prim.Native.Nat.{ℕ, ◌+◌, ◌≤◌, ◌<◌}
 use native.Mathlib.Omega.{arith}
 use lib.Dec.{ltb}
-use lib.ListN.{length, get_or, take, drop, replicate}
+use lib.ListN.{get_or}
 use borrow.Author.Rules.{rules}
-use Rattle.theory_spec.specs.Lists.{numbers_from}
 use Rattle.model_spec.specs.States.{many_valued}
 use Rattle.model_spec.proofs.StateLaws.{width-position, width_beyond}
 use Rattle.macros_spec.specs.Composition.{own_variables}
@@ -29,27 +28,27 @@ unfolding own_variables
 loop-i-init c = (search rules, search rules, refl, refl)
 
 pub bounds-sizes-i : goal.bounds-sizes-i
-bounds-sizes-i c = (omega (arith, c.smaller-count.ensures))
+bounds-sizes-i c = omega (arith, c.smaller-count.ensures)
 
 pub overflow_add-i : goal.overflow_add-i
-overflow_add-i c = omega (arith, (omega (arith, c.smaller-count.ensures)))
+overflow_add-i c = omega (arith, c.smaller-count.ensures)
 
 pub bounds-entries-i : goal.bounds-entries-i
-bounds-entries-i c = (omega (arith, c.smaller-count.ensures))
+bounds-entries-i c = omega (arith, c.smaller-count.ensures)
 
 pub overflow_add-i-in-loop-i : goal.overflow_add-i-in-loop-i
-overflow_add-i-in-loop-i c = omega (arith, (omega (arith, c.smaller-count.ensures)))
+overflow_add-i-in-loop-i c = omega (arith, c.smaller-count.ensures)
 
 pub loop-i-smaller : goal.loop-i-smaller
-loop-i-smaller c = omega (arith, (omega (arith, c.smaller-count.ensures)))
+loop-i-smaller c = omega (arith, c.smaller-count.ensures)
 
 pub loop-i-preserved : goal.loop-i-preserved
 loop-i-preserved c =
     let l = c.loop-i in
-    let within = (omega (arith, c.smaller-count.ensures)) in (
+    let within : l.i < 16 = omega (arith, c.smaller-count.ensures) in (
       search rules,
       search rules,
-      fill_go _ l.i 16 l.entries _ l.invariant.2 _ (entry-due _ _ _ _ ((omega (arith, c.smaller-count.ensures))) c.own_entry.ensures)
+      fill_go _ l.i 16 l.entries _ l.invariant.2 _ (entry-due _ _ _ _ (omega (arith, c.smaller-count.ensures)) c.own_entry.ensures)
           within (omega (arith, within)),
       zeros-behind l.i 16 l.entries _ l.invariant.3 within,
     )

@@ -1,18 +1,13 @@
 -- `composition::own_variables` meets its contract. The invariant: the first i places, and what the others are to hold,
 -- are the whole; the others still hold 0.
-use mathlib.Core.Path.{◌≡◌, refl, sym, ap, ◌∙◌}
+use mathlib.Core.Path.{◌≡◌}
 use mathlib.Core.Bool.{cond}
-use mathlib.Core.List.{List, ◌++◌, map}
-use Prim.Native.Nat.{ℕ, ◌+◌, ◌≤◌, ◌<◌, ◌-◌}
-use native.Mathlib.Omega.{arith}
-use lib.Dec.{ltb}
-use lib.ListN.{length, get_or, take, drop, replicate}
-use borrow.Author.Rules.{rules}
+use mathlib.Core.List.{◌++◌, map}
+use Prim.Native.Nat.{◌+◌, ◌≤◌, ◌-◌}
+use lib.ListN.{length, take, drop, replicate}
 use Rattle.theory_spec.specs.Lists.{numbers_from}
 use Rattle.model_spec.specs.States.{many_valued}
-use Rattle.model_spec.proofs.StateLaws.{width-position, width_beyond}
 use Rattle.macros_spec.specs.Composition.{own_variables}
-use Rattle.macros_spec.proofs.CompositionLoopLaws.{fill_go, fill-zeros, zeros-behind}
 use Rattle.composition.proofs.own_variables.Given as goal
 
 abbrev pub invariant-loop-i : goal.invariant-loop-i

@@ -1,13 +1,10 @@
 -- `composition::replaced` meets its contract. The invariant: in the first i places of both vectors each `from` is
 -- replaced, the others are as they were.
-use mathlib.Core.Path.{◌≡◌, refl, sym, ◌∙◌}
-use Prim.Native.Nat.{◌≤◌, ◌-◌}
+use mathlib.Core.Path.{refl, sym, ◌∙◌}
 use native.Mathlib.Omega.{arith}
 use borrow.Author.Rules.{rules}
-use Rattle.model_spec.proofs.LoopLaws.{front, front_none, front_next, front_all}
+use Rattle.model_spec.proofs.LoopLaws.{front_none, front_next, front_all}
 use Rattle.macros_spec.specs.Composition.{replaced}
-use Rattle.macros_spec.proofs.VectorLaws.{exchanged}
-use Rattle.macros_spec.proofs.VectorsShape.{condition_16, effect_16}
 use Rattle.composition.proofs.replaced.Goals as goal
 
 pub loop-i-init : goal.loop-i-init
@@ -25,9 +22,8 @@ loop-i-preserved c =
 pub returns : goal.returns
 unfolding replaced
 returns c =
-    let inv = c.loop-i.invariant in
-    let owned = c.type_inv.1.1.0 in (
+    let inv = c.loop-i.invariant in (
       inv.1,
-      inv.2 ∙ front_all _ _ _ (omega (arith, condition_16 c.args.t3 _ owned)),
-      inv.3 ∙ front_all _ _ _ (omega (arith, effect_16 c.args.t3 _ owned)),
+      inv.2 ∙ front_all _ _ _ (omega arith),
+      inv.3 ∙ front_all _ _ _ (omega arith),
     )

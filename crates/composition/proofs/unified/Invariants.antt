@@ -1,18 +1,16 @@
 -- `composition::unified` meets its contract. The invariant: what is left to unify from place i on, in the vectors as
 -- they stand, decides the whole.
-use mathlib.Core.Path.{◌≡◌, refl, sym, ap, ◌∙◌}
-use mathlib.Core.Logic.{⊎_elim}
+use mathlib.Core.Path.{◌≡◌}
 use mathlib.Core.Bool.{true}
-use mathlib.Core.Option.{some}
-use Prim.Native.Nat.{◌+◌, ◌≤◌, ◌<◌, ◌-◌}
-use native.Mathlib.Omega.{arith}
-use lib.ListN.{length, drop}
-use borrow.Author.Rules.{rules}
-use Rattle.model_spec.specs.States.{value_of}
-use Rattle.macros_spec.specs.Composition.{Lines, unified, as_vectors}
+use Prim.Native.Nat.{◌≤◌, ◌-◌}
+use lib.ListN.{drop}
+use Rattle.macros_spec.specs.Composition.{Lines, unified}
 use Rattle.macros_spec.specs.declared.Vectors.{Vectors}
-use Rattle.macros_spec.proofs.CompositionLoopLaws.{unify-same, unify-clash, unify_go, unify_own, unify-end}
 use Rattle.composition.proofs.unified.Given as goal
+
+-- both vectors of a sequence
+abbrev pub lines_in : Vectors → Lines
+lines_in v = record { condition = v.condition; effect = v.effect }
 
 abbrev pub invariant-loop-i : goal.invariant-loop-i
 invariant-loop-i l =
