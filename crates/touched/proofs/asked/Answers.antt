@@ -1,13 +1,11 @@
 -- `touched::asked` meets its contract. The invariant: the places before k whose entry is not their own variable.
 use mathlib.Core.Path.{refl}
-use mathlib.Core.Bool.{not}
-use Prim.Native.Nat.{◌-◌}
 use native.Mathlib.Omega.{arith}
 use lib.ListN.{get_or}
 use borrow.Author.Rules.{rules}
 use Rattle.theory_spec.proofs.SetLaws.{filled_none}
 use Rattle.macros_spec.specs.Touched.{names}
-use Rattle.macros_spec.proofs.TouchedLoopLaws.{Filled, put_or_not, filled}
+use Rattle.macros_spec.proofs.TouchedLoopLaws.{put_or_not, filled}
 use Rattle.touched.proofs.asked.Goals as goal
 
 pub loop-k-init : goal.loop-k-init

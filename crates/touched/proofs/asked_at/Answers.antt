@@ -1,7 +1,6 @@
 -- `touched::asked_at` meets its contract: a constant, another's variable, its own.
 use mathlib.Core.Path.{sym, ◌∙◌}
 use borrow.Author.Tests.{lt-ltb, le-ltb, eq-eqb, ne_eqb}
-use borrow.Author.Rules.{rules}
 use Rattle.theory_spec.proofs.SetLaws.{shifted_own}
 use Rattle.touched.proofs.asked_at.Goals as goal
 

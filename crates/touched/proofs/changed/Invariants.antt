@@ -1,15 +1,9 @@
 -- `touched::changed` meets its contract. The invariant: the places before k whose entries differ.
-use mathlib.Core.Path.{ap}
-use mathlib.Core.Logic.{⊎_elim}
 use mathlib.Core.Bool.{not}
 use Prim.Native.Nat.{◌-◌}
-use native.Mathlib.Omega.{arith}
 use lib.Dec.{eqb}
 use lib.ListN.{get_or}
-use borrow.Author.Tests.{eq-eqb, ne_eqb}
-use borrow.Author.Rules.{rules}
-use Rattle.theory_spec.proofs.SetLaws.{filled_none}
-use Rattle.macros_spec.proofs.TouchedLoopLaws.{Filled, put_in, left_out, filled}
+use Rattle.macros_spec.proofs.TouchedLoopLaws.{Filled}
 use Rattle.touched.proofs.changed.Given as goal
 
 abbrev pub invariant-loop-k : goal.invariant-loop-k

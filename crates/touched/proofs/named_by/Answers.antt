@@ -1,5 +1,4 @@
 -- `touched::named_by` meets its contract: a constant, the variable of its own place, another's.
-use borrow.Author.Rules.{rules}
 use Rattle.macros_spec.proofs.TouchedLoopLaws.{constant_adds, own_adds, other_adds}
 use Rattle.touched.proofs.named_by.Goals as goal
 

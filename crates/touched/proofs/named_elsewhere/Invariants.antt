@@ -1,9 +1,7 @@
 -- `touched::named_elsewhere` meets its contract. The invariant: the positions named so far, with those that the entries
 -- from place k on name, are all.
 use Prim.Native.Nat.{◌-◌}
-use native.Mathlib.Omega.{arith}
-use borrow.Author.Rules.{rules}
-use Rattle.macros_spec.proofs.TouchedLoopLaws.{Named, named_none, named_more, named_all}
+use Rattle.macros_spec.proofs.TouchedLoopLaws.{Named}
 use Rattle.touched.proofs.named_elsewhere.Given as goal
 
 abbrev pub invariant-loop-k : goal.invariant-loop-k

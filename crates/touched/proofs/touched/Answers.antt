@@ -2,7 +2,6 @@
 use mathlib.Core.Path.{ap₂}
 use lib.Bits.{bit_or}
 use borrow.Author.Tests.{not-true, not-false}
-use borrow.Author.Rules.{rules}
 use Rattle.macros_spec.proofs.TouchedLoopLaws.{touched_none, touched_parts}
 use Rattle.touched.proofs.touched.Goals as goal
 
