@@ -13,3 +13,7 @@ returns-then-table-i c =
     let low = get_or-eq_default a.table.now 0 {n = 2 * a.i} (omega arith) in
     let high = get_or-eq_default a.table.now 0 {n = 2 * a.i + 1} (omega arith) in
     (omega (arith, low, high), omega arith)
+
+pub returns : goal.returns
+unfolding entry_at
+returns c = search rules

@@ -1,11 +1,7 @@
 -- `tables::sequence_count` meets its contract. The invariant: `first` is the number of sequences of at most n rules.
-use mathlib.Core.Path.{◌≡◌, sym, ap, ◌∙◌}
-use Prim.Native.Nat.{ℕ, suc, min, ◌+◌, ◌*◌, ◌≤◌, ◌<◌, ◌-◌}
-use native.Mathlib.Numerals.{add-one}
-use native.Mathlib.Omega.{arith}
-use borrow.Author.Rules.{rules}
+use mathlib.Core.Path.{◌≡◌}
+use Prim.Native.Nat.{◌≤◌, ◌-◌}
 use Rattle.tables_spec.specs.Table.{sequence_count}
-use Rattle.tables_spec.proofs.CountLaws.{count_next, count_byte}
 use Rattle.tables.proofs.sequence_count.Given as goal
 
 abbrev pub invariant-loop-n : goal.invariant-loop-n
