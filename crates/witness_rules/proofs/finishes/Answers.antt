@@ -1,8 +1,7 @@
 -- `witness_rules::finishes` meets its contract: the rule does not lead to the target, or whether it runs decides.
-use mathlib.Core.Path.{sym, ◌∙◌}
+use mathlib.Core.Path.{sym}
 use mathlib.Core.Bool.{and-true}
 use lib.Dec.{leb}
-use borrow.Author.Rules.{rules}
 use Rattle.model_spec.specs.States.{applicable}
 use Rattle.model_spec.proofs.LoopLaws.{failed, passed, second_fails}
 use Rattle.witness_rules.proofs.finishes.Goals as goal

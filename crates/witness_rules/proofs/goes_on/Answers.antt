@@ -1,7 +1,6 @@
 -- `witness_rules::goes_on` meets its contract: the rule is too dear, or its condition decides.
 use mathlib.Core.Path.{sym}
 use borrow.Author.Tests.{le-leb, lt-leb}
-use borrow.Author.Rules.{rules}
 use Rattle.model_spec.proofs.LoopLaws.{first_fails}
 use Rattle.witness_rules.proofs.goes_on.Goals as goal
 

@@ -1,12 +1,8 @@
 -- `witness_rules::leads_to` meets its contract. The invariant: what is left of the effect and the target from place i
 -- on decides the whole.
-use mathlib.Core.Path.{◌≡◌, refl, sym, ◌∙◌}
-use mathlib.Core.List.{map}
-use Prim.Native.Nat.{◌≤◌, ◌-◌}
+use mathlib.Core.Path.{refl, sym, ◌∙◌}
 use native.Mathlib.Omega.{arith}
-use lib.ListN.{drop}
 use borrow.Author.Rules.{rules}
-use Rattle.theory_spec.specs.Lists.{same}
 use Rattle.model_spec.specs.States.{value_of, values_of, successor}
 use Rattle.model_spec.proofs.LoopLaws.{same_go, same_stop, same_end}
 use Rattle.witness_rules.proofs.leads_to.Goals as goal

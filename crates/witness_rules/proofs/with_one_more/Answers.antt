@@ -1,35 +1,31 @@
 -- `witness_rules::with_one_more` meets its contract. The invariant: what is found from place k of the rules on is what
 -- is found of all.
-use mathlib.Core.Path.{◌≡◌, refl, sym, ◌∙◌}
-use mathlib.Core.Option.{Option, some}
-use Prim.Native.Nat.{◌≤◌, ◌-◌}
+use mathlib.Core.Path.{refl, sym, ◌∙◌}
 use native.Mathlib.Omega.{arith}
 use borrow.Author.Rules.{rules}
 use Rattle.theory_spec.specs.Sequences.{level}
-use Rattle.macros_spec.specs.Composition.{Lines}
-use Rattle.tables_laws.specs.How.Witnesses.{first_witness}
 use Rattle.tables_laws.proofs.WitnessLaws.{witness-searched, witness_unsearched}
-use Rattle.tables_laws.proofs.WitnessLaws.{from_rule, from_first, from_end, last_next, last_found}
+use Rattle.tables_laws.proofs.WitnessLaws.{from_first, from_end, last_next, last_found}
 use Rattle.witness_rules.proofs.with_one_more.Goals as goal
 
 pub returns-then-set-gt-MAX_RULES : goal.returns-then-set-gt-MAX_RULES
 returns-then-set-gt-MAX_RULES c =
     let s = c.args in
-    sym (witness_unsearched s.t1 s.index _ s.left (level s.t1.count 1) c.if-set-gt-MAX_RULES.true)
+    sym (witness_unsearched s.set s.index _ s.left (level s.set.count 1) c.if-set-gt-MAX_RULES.true)
 
 pub loop-k-init : goal.loop-k-init
 loop-k-init c =
     let s = c.args in (
       search rules,
-      from_first s.t1 s.entries.now s.target.now s.left s.index 0 1 refl
-          ∙ sym (witness-searched s.t1 s.index _ s.left (level s.t1.count 1) c.if-set-gt-MAX_RULES.false),
+      from_first s.set s.entries.now s.target.now s.left s.index 0 1 refl
+          ∙ sym (witness-searched s.set s.index _ s.left (level s.set.count 1) c.if-set-gt-MAX_RULES.false),
     )
 
 pub returns-then-finishes : goal.returns-then-finishes
 returns-then-finishes c =
     let s = c.args in
     c.index_behind.ensures
-    ∙ last_found s.t1 s.entries.now s.target.now s.left s.index c.loop-k.k (omega arith)
+    ∙ last_found s.set s.entries.now s.target.now s.left s.index c.loop-k.k (omega arith)
     _ c.finishes.ensures c.if-finishes.true
     ∙ c.loop-k.invariant.1
 
@@ -37,7 +33,7 @@ pub loop-k-preserved : goal.loop-k-preserved
 loop-k-preserved c =
     let s = c.args in (
       search rules,
-      last_next s.t1 s.entries.now s.target.now s.left s.index c.loop-k.k (omega arith)
+      last_next s.set s.entries.now s.target.now s.left s.index c.loop-k.k (omega arith)
           _ c.finishes.ensures c.if-finishes.false
           ∙ c.loop-k.invariant.1,
     )
@@ -45,5 +41,5 @@ loop-k-preserved c =
 pub returns : goal.returns
 returns c =
     let s = c.args in
-    sym (from_end s.t1 s.entries.now s.target.now s.left s.index 0 c.loop-k.k (omega arith))
+    sym (from_end s.set s.entries.now s.target.now s.left s.index 0 c.loop-k.k (omega arith))
     ∙ c.loop-k.invariant.1

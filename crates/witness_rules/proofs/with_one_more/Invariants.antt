@@ -1,15 +1,12 @@
 -- `witness_rules::with_one_more` meets its contract. The invariant: what is found from place k of the rules on is what
 -- is found of all.
-use mathlib.Core.Path.{◌≡◌, refl, sym, ◌∙◌}
+use mathlib.Core.Path.{◌≡◌}
 use mathlib.Core.Option.{Option, some}
 use Prim.Native.Nat.{◌≤◌, ◌-◌}
-use native.Mathlib.Omega.{arith}
-use borrow.Author.Rules.{rules}
 use Rattle.theory_spec.specs.Sequences.{level}
 use Rattle.macros_spec.specs.Composition.{Lines}
 use Rattle.tables_laws.specs.How.Witnesses.{first_witness}
-use Rattle.tables_laws.proofs.WitnessLaws.{witness-searched, witness_unsearched}
-use Rattle.tables_laws.proofs.WitnessLaws.{from_rule, from_first, from_end, last_next, last_found}
+use Rattle.tables_laws.proofs.WitnessLaws.{from_rule}
 use Rattle.witness_rules.proofs.with_one_more.Given as goal
 
 abbrev pub invariant-loop-k : goal.invariant-loop-k
