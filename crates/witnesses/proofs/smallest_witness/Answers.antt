@@ -5,18 +5,16 @@ use mathlib.Core.Option.{Option, some, none}
 use Prim.Native.Nat.{ℕ, ◌-◌, ◌≤◌}
 use native.Mathlib.Omega.{arith}
 use borrow.Author.Tests.{not-true, not-false, le-leb}
-use borrow.Author.Rules.{rules}
 use Rattle.theory_spec.specs.Sequences.{Sequence, sequences}
 use Rattle.model_spec.specs.Rules.{sequence_cost}
 use Rattle.model_spec.specs.declared.RuleSet.{RuleSet}
 use Rattle.macros_spec.specs.Composition.{Lines, lines_of}
 use Rattle.macros_spec.specs.Redundancy.{covers}
 use Rattle.macros_spec.specs.declared.Vectors.{Vectors}
-use Rattle.tables_spec.specs.Table.{kept}
 use Rattle.tables_laws.specs.How.Witnesses.{first_behind, serves, first_witness}
 use Rattle.tables_spec.proofs.CountLaws.{count_levels}
 use Rattle.tables_laws.proofs.WitnessLaws.{witness-searched, witness_unsearched, serves-last}
-use Rattle.tables_laws.proofs.WitnessLaws.{up_to, empty-found, empty_next, lengths_next, lengths-found, lengths-end}
+use Rattle.tables_laws.proofs.WitnessLaws.{empty-found, empty_next, lengths_next, lengths-found, lengths-end}
 use Rattle.witnesses.proofs.smallest_witness.Goals as goal
 
 module _ (set : RuleSet) (v : Vectors) (cost : ℕ) (few : set.count ≤ 31) where
@@ -57,8 +55,8 @@ returns-then-not-sequence c =
 pub returns-then-same_entries : goal.returns-then-same_entries
 returns-then-same_entries c =
     let s = c.args in
-    admitted s.set s.sequence s.cost c.if-set-gt-MAX_RULES.left (not-false _ c.if-not-sequence.left) 0
-    (empty-found s.set.count (aim s.set s.sequence s.cost c.if-set-gt-MAX_RULES.left)
+    admitted s.set s.sequence s.cost c.if-set-gt-MAX_RULES.false (not-false _ c.if-not-sequence.false) 0
+    (empty-found s.set.count (aim s.set s.sequence s.cost c.if-set-gt-MAX_RULES.false)
     (serves-last s.set s.sequence.condition s.cost s.sequence.effect
     ∙ sym c.same_entries.ensures
     ∙ c.if-same_entries.true))
@@ -68,7 +66,7 @@ loop-more-init c =
     let s = c.args in (
       omega arith,
       omega arith,
-      empty_next s.set.count (aim s.set s.sequence s.cost c.if-set-gt-MAX_RULES.left)
+      empty_next s.set.count (aim s.set s.sequence s.cost c.if-set-gt-MAX_RULES.false)
           (serves-last s.set s.sequence.condition s.cost s.sequence.effect
           ∙ sym c.same_entries.ensures
           ∙ c.if-same_entries.false),
@@ -77,19 +75,19 @@ loop-more-init c =
 pub with_more-found-requires : goal.with_more-found-requires
 with_more-found-requires c =
     let count = c.args.set.count in
-    (c.loop-more.invariant.0, omega arith, c.if-set-gt-MAX_RULES.left, omega (arith, count_levels count (3 - c.loop-more.more)))
+    (c.loop-more.invariant.0, omega arith, c.if-set-gt-MAX_RULES.false, omega (arith, count_levels count (3 - c.loop-more.more)))
 
 pub returns-then-found-ne-KEPT : goal.returns-then-found-ne-KEPT
 returns-then-found-ne-KEPT c =
-    let few = c.if-set-gt-MAX_RULES.left in
+    let few = c.if-set-gt-MAX_RULES.false in
     let s = c.args in
-    admitted s.set s.sequence s.cost few (not-false _ c.if-not-sequence.left) _
+    admitted s.set s.sequence s.cost few (not-false _ c.if-not-sequence.false) _
     (lengths-found s.set.count (aim s.set s.sequence s.cost few) few c.loop-more.more c.loop-more.invariant.0
     (omega arith) c.loop-more.invariant.2 _ c.with_more-found.ensures c.if-found-ne-KEPT.true)
 
 pub loop-more-preserved : goal.loop-more-preserved
 loop-more-preserved c =
-    let few = c.if-set-gt-MAX_RULES.left in
+    let few = c.if-set-gt-MAX_RULES.false in
     let s = c.args in (
       omega arith,
       omega arith,
@@ -99,8 +97,8 @@ loop-more-preserved c =
 
 pub returns : goal.returns
 returns c =
-    let few = c.if-set-gt-MAX_RULES.left in
+    let few = c.if-set-gt-MAX_RULES.false in
     let s = c.args in
-    admitted s.set s.sequence s.cost few (not-false _ c.if-not-sequence.left) 65535
+    admitted s.set s.sequence s.cost few (not-false _ c.if-not-sequence.false) 65535
     (lengths-end s.set.count (aim s.set s.sequence s.cost few) c.loop-more.more (omega arith) (omega arith)
     c.loop-more.invariant.2)
