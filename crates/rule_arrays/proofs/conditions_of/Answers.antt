@@ -16,12 +16,12 @@ pub loop-i-preserved : goal.loop-i-preserved
 loop-i-preserved c =
     let l = c.loop-i in (
       search rules,
-      row_more (λ rule. rule.condition) _ c.args.t1.rules l.i l.conditions l.invariant.1 _
-          (omega arith) (omega (arith, rules_31 c.args.t1 _ c.type_inv.0)),
+      row_more (λ rule. rule.condition) _ c.args.set.rules l.i l.conditions l.invariant.1 _
+          (omega arith) (omega (arith, rules_31 c.args.set _ c.type_inv.set)),
     )
 
 pub returns : goal.returns
 returns c =
     let l = c.loop-i in
-    row-whole (λ rule. rule.condition) _ c.args.t1.rules l.i l.conditions l.invariant.1 (omega arith)
-    (omega (arith, rules_31 c.args.t1 _ c.type_inv.0))
+    row-whole (λ rule. rule.condition) _ c.args.set.rules l.i l.conditions l.invariant.1 (omega arith)
+    (omega (arith, rules_31 c.args.set _ c.type_inv.set))

@@ -16,12 +16,12 @@ pub loop-k-preserved : goal.loop-k-preserved
 loop-k-preserved c =
     let l = c.loop-k in (
       search rules,
-      row_more (λ rule. rule.cost) _ c.args.t1.rules l.k l.costs l.invariant.1 _
-          (omega arith) (omega (arith, rules_31 c.args.t1 _ c.type_inv.0)),
+      row_more (λ rule. rule.cost) _ c.args.set.rules l.k l.costs l.invariant.1 _
+          (omega arith) (omega (arith, rules_31 c.args.set _ c.type_inv.set)),
     )
 
 pub returns : goal.returns
 returns c =
     let l = c.loop-k in
-    row-whole (λ rule. rule.cost) _ c.args.t1.rules l.k l.costs l.invariant.1 (omega arith)
-    (omega (arith, rules_31 c.args.t1 _ c.type_inv.0))
+    row-whole (λ rule. rule.cost) _ c.args.set.rules l.k l.costs l.invariant.1 (omega arith)
+    (omega (arith, rules_31 c.args.set _ c.type_inv.set))

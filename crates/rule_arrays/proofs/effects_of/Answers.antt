@@ -16,12 +16,12 @@ pub loop-j-preserved : goal.loop-j-preserved
 loop-j-preserved c =
     let l = c.loop-j in (
       search rules,
-      row_more (λ rule. rule.effect) _ c.args.t1.rules l.j l.effects l.invariant.1 _
-          (omega arith) (omega (arith, rules_31 c.args.t1 _ c.type_inv.0)),
+      row_more (λ rule. rule.effect) _ c.args.set.rules l.j l.effects l.invariant.1 _
+          (omega arith) (omega (arith, rules_31 c.args.set _ c.type_inv.set)),
     )
 
 pub returns : goal.returns
 returns c =
     let l = c.loop-j in
-    row-whole (λ rule. rule.effect) _ c.args.t1.rules l.j l.effects l.invariant.1 (omega arith)
-    (omega (arith, rules_31 c.args.t1 _ c.type_inv.0))
+    row-whole (λ rule. rule.effect) _ c.args.set.rules l.j l.effects l.invariant.1 (omega arith)
+    (omega (arith, rules_31 c.args.set _ c.type_inv.set))
