@@ -5,7 +5,6 @@ use mathlib.Core.List.{map}
 use Prim.Native.Nat.{◌≤◌, ◌-◌}
 use native.Mathlib.Omega.{arith}
 use borrow.Author.Rules.{rules}
-use Rattle.model_spec.proofs.Shapes.{rules_31}
 use Rattle.model_spec.proofs.CopyLaws.{copied, row_more, row-whole}
 use Rattle.rule_arrays.proofs.effects_of.Goals as goal
 
@@ -17,11 +16,11 @@ loop-j-preserved c =
     let l = c.loop-j in (
       search rules,
       row_more (λ rule. rule.effect) _ c.args.set.rules l.j l.effects l.invariant.1 _
-          (omega arith) (omega (arith, rules_31 c.args.set _ c.type_inv.set)),
+          (omega arith) (omega arith),
     )
 
 pub returns : goal.returns
 returns c =
     let l = c.loop-j in
     row-whole (λ rule. rule.effect) _ c.args.set.rules l.j l.effects l.invariant.1 (omega arith)
-    (omega (arith, rules_31 c.args.set _ c.type_inv.set))
+    (omega arith)

@@ -5,7 +5,6 @@ use mathlib.Core.List.{map}
 use Prim.Native.Nat.{◌≤◌, ◌-◌}
 use native.Mathlib.Omega.{arith}
 use borrow.Author.Rules.{rules}
-use Rattle.model_spec.proofs.Shapes.{rules_31}
 use Rattle.model_spec.proofs.CopyLaws.{copied, row_more, row-whole}
 use Rattle.rule_arrays.proofs.effects_of.Given as goal
 
