@@ -21,7 +21,7 @@ loop-i-preserved c =
     let state = c.args.state.now in
     let near : c.loop-i.i < 16 = omega (arith, c.loop-i-test.true, c.smaller-end.ensures) in
     let led = c.value.ensures ∙ sym (successor_at effect state c.loop-i.i) in
-    let sixteen = c.entries-1.given.0 in
+    let sixteen = c.entries-1.given in
     let long : length (successor effect state) ≡ 16 = successor-length effect state ∙ sixteen in (
       omega (arith, c.loop-i-test.true),
       laid_more c.loop-i.i (successor effect state) c.args.next.now _ _ (omega (arith, near, long))

@@ -20,21 +20,33 @@ loop-i-init c = (omega arith, c.smaller-end.ensures, refl)
 pub returns-then-value-held : goal.returns-then-value-held
 returns-then-value-held c =
     let s = c.args in
+    let l = c.loop-i in
+    let end = c.smaller-end.result in
     let f : ℕ → ℕ = λ e. value_of e s.state.now in
-    same_stop f (take c.smaller-end.result s.condition.now) (take c.smaller-end.result s.state.now) c.loop-i.i _
-    c.loop-i.invariant.2 ((let s = c.args in let l = c.loop-i in let end = c.smaller-end.result in (omega (arith, c.loop-i-test.true, l.invariant.1, length-take end s.condition.now, c.entries-1.given.0), omega (arith, c.loop-i-test.true, l.invariant.1, length-take end s.state.now, c.held-1.given.0)))).0 ((let s = c.args in let l = c.loop-i in let end = c.smaller-end.result in (omega (arith, c.loop-i-test.true, l.invariant.1, length-take end s.condition.now, c.entries-1.given.0), omega (arith, c.loop-i-test.true, l.invariant.1, length-take end s.state.now, c.held-1.given.0)))).1
-    (λ e. c.if-value-held.true (c.value.ensures ∙ sym (ap f (get_or-take c.smaller-end.result c.args.condition.now c.loop-i.i 0 c.loop-i-test.true)) ∙ e ∙ (get_or-take c.smaller-end.result c.args.state.now c.loop-i.i 0 c.loop-i-test.true)))
-    ∙ ap (λ n. meets_within n s.condition.now s.state.now) c.loop-i.invariant.1
+    let taken = length-take end s.condition.now in
+    let taken_too = length-take end s.state.now in
+    let here : l.i < length (take end s.condition.now) = omega (arith, taken) in
+    let here_too : l.i < length (take end s.state.now) = omega (arith, taken_too) in
+    same_stop f (take end s.condition.now) (take end s.state.now) l.i _ l.invariant.2 here here_too
+    (λ e. c.if-value-held.true (c.value.ensures ∙ sym (ap f (get_or-take end s.condition.now l.i 0 c.loop-i-test.true))
+    ∙ e ∙ get_or-take end s.state.now l.i 0 c.loop-i-test.true))
+    ∙ ap (λ n. meets_within n s.condition.now s.state.now) l.invariant.1
 
 pub loop-i-preserved : goal.loop-i-preserved
 loop-i-preserved c =
     let s = c.args in
+    let l = c.loop-i in
+    let end = c.smaller-end.result in
     let f : ℕ → ℕ = λ e. value_of e s.state.now in
-    let agrees = ap f (get_or-take c.smaller-end.result c.args.condition.now c.loop-i.i 0 c.loop-i-test.true) ∙ sym c.value.ensures ∙ c.if-value-held.false ∙ sym (get_or-take c.smaller-end.result c.args.state.now c.loop-i.i 0 c.loop-i-test.true) in (
+    let taken = length-take end s.condition.now in
+    let taken_too = length-take end s.state.now in
+    let here : l.i < length (take end s.condition.now) = omega (arith, taken) in
+    let here_too : l.i < length (take end s.state.now) = omega (arith, taken_too) in
+    let agrees = ap f (get_or-take end s.condition.now l.i 0 c.loop-i-test.true) ∙ sym c.value.ensures
+    ∙ c.if-value-held.false ∙ sym (get_or-take end s.state.now l.i 0 c.loop-i-test.true) in (
       omega (arith, c.loop-i-test.true),
-      c.loop-i.invariant.1,
-      same_go f (take c.smaller-end.result s.condition.now) (take c.smaller-end.result s.state.now) c.loop-i.i _
-          c.loop-i.invariant.2 ((let s = c.args in let l = c.loop-i in let end = c.smaller-end.result in (omega (arith, c.loop-i-test.true, l.invariant.1, length-take end s.condition.now, c.entries-1.given.0), omega (arith, c.loop-i-test.true, l.invariant.1, length-take end s.state.now, c.held-1.given.0)))).0 ((let s = c.args in let l = c.loop-i in let end = c.smaller-end.result in (omega (arith, c.loop-i-test.true, l.invariant.1, length-take end s.condition.now, c.entries-1.given.0), omega (arith, c.loop-i-test.true, l.invariant.1, length-take end s.state.now, c.held-1.given.0)))).1 agrees,
+      l.invariant.1,
+      same_go f (take end s.condition.now) (take end s.state.now) l.i _ l.invariant.2 here here_too agrees,
     )
 
 pub returns : goal.returns
