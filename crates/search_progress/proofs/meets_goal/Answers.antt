@@ -1,8 +1,7 @@
 -- `search_progress::meets_goal` meets its contract. The invariant: the bytes from place i on, of the goal's first
 -- sixteen, decide the whole.
 use mathlib.Core.Path.{◌≡◌, ap, ◌∙◌}
-use mathlib.Core.Logic.{⊎_elim}
-use mathlib.Core.Bool.{◌||◌}
+use mathlib.Core.Bool.{true, ◌||◌}
 use Prim.Native.Nat.{◌≤◌, ◌<◌, ◌-◌}
 use native.Mathlib.Omega.{arith}
 use lib.Dec.{eqb}
@@ -15,6 +14,7 @@ use Rattle.theory_spec.proofs.ListLaws.{or_left, or_right}
 use Rattle.model_spec.proofs.LoopLaws.{every_go, every_stop, every-end}
 use Rattle.search_spec.specs.Query.{meets_goal}
 use Rattle.search_progress.proofs.meets_goal.Goals as goal
+use Rattle.search_progress.proofs.meets_goal.Goals.{then-goal-i+else-held-i, else-goal-i}
 
 pub loop-i-init : goal.loop-i-init
 unfolding meets_goal
@@ -26,20 +26,26 @@ loop-i-init c =
 pub returns-then-held-i : goal.returns-then-held-i
 returns-then-held-i c =
     let goal = c.args.goal.now in
-    every_stop _ _ _ _ c.loop-i.invariant.2 ((omega (arith, c.loop-i-test.true, c.loop-i.invariant.1)))
-    (rw ((let goal = c.args.goal.now in get_or-take 16 goal c.loop-i.i 0 (omega (arith, (omega (arith, c.loop-i-test.true, c.loop-i.invariant.1)), length-take 16 goal))), ne_eqb (get_or goal c.loop-i.i 0) 255 c.if-goal-i.true, ne_eqb _ _ c.if-held-i.true))
+    let i = c.loop-i.i in
+    let here : i < length (take 16 goal) = omega (arith, c.loop-i-test.true, c.loop-i.invariant.1) in
+    let same = get_or-take 16 goal i 0 (omega (arith, here, length-take 16 goal)) in
+    every_stop _ _ _ _ c.loop-i.invariant.2 here
+    (rw (same, ne_eqb (get_or goal i 0) 255 c.if-goal-i.true, ne_eqb _ _ c.if-held-i.true))
 
 pub loop-i-preserved : goal.loop-i-preserved
 loop-i-preserved c =
     let l = c.loop-i in
-    let s = c.args in
-    let goal = get_or s.goal.now l.i 0 in
-    let held = get_or s.state.now l.i 0 in
-    let passes = ⊎_elim (λ w. or_right (eqb goal 255) (eq-eqb held goal w.3.left))
-    (λ w. or_left (eqb held goal) (eq-eqb goal 255 w.left)) c.if-goal-i.branch in (
+    let goal = get_or c.args.goal.now l.i 0 in
+    let held = get_or c.args.state.now l.i 0 in
+    let here : l.i < length (take 16 c.args.goal.now) = omega (arith, c.loop-i-test.true, l.invariant.1) in
+    let same = get_or-take 16 c.args.goal.now l.i 0 (omega (arith, here, length-take 16 c.args.goal.now)) in
+    let passes : (eqb goal 255 || eqb held goal) ≡ true = elim c.if-goal-i.branch [
+      | then-goal-i+else-held-i w ↦ or_right (eqb goal 255) (eq-eqb held goal w.if-held-i.false)
+      | else-goal-i w ↦ or_left (eqb held goal) (eq-eqb goal 255 w.if-goal-i.false)
+    ] in (
       omega (arith, c.loop-i-test.true),
       l.invariant.1,
-      every_go _ _ _ _ l.invariant.2 ((omega (arith, c.loop-i-test.true, c.loop-i.invariant.1))) (ap (λ n. eqb n 255 || eqb held n) ((let goal = c.args.goal.now in get_or-take 16 goal c.loop-i.i 0 (omega (arith, (omega (arith, c.loop-i-test.true, c.loop-i.invariant.1)), length-take 16 goal)))) ∙ passes),
+      every_go _ _ _ _ l.invariant.2 here (ap (λ n. eqb n 255 || eqb held n) same ∙ passes),
     )
 
 pub returns : goal.returns
