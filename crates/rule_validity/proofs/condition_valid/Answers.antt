@@ -18,22 +18,30 @@ loop-i-init c = (search rules, sized c.args.condition.now _ _ (omega arith))
 pub returns-then-not-entry_limited : goal.returns-then-not-entry_limited
 returns-then-not-entry_limited c =
     let s = c.args in
-    every_stop (test s.positions s.sizes.now s.condition.now) c.loop-i.i 16 _ c.loop-i.invariant.1 (omega arith)
+    let l = c.loop-i in
+    every_stop (test s.positions s.sizes.now s.condition.now) l.i 16 _ l.invariant.1 (omega arith)
     (first_fails _ (sym c.entry_limited.ensures ∙ c.if-not-entry_limited.true))
 
 pub returns-then-not-condition_placed : goal.returns-then-not-condition_placed
 returns-then-not-condition_placed c =
     let s = c.args in
-    every_stop (test s.positions s.sizes.now s.condition.now) c.loop-i.i 16 _ c.loop-i.invariant.1 (omega arith)
-    (second_fails ((let i = c.loop-i.i in entry_limited s.positions s.sizes.now i (get_or s.condition.now i 0))) (sym c.condition_placed.ensures ∙ c.if-not-condition_placed.true))
+    let l = c.loop-i in
+    every_stop (test s.positions s.sizes.now s.condition.now) l.i 16 _ l.invariant.1 (omega arith)
+    (second_fails (entry_limited s.positions s.sizes.now l.i (get_or s.condition.now l.i 0))
+    (sym c.condition_placed.ensures ∙ c.if-not-condition_placed.true))
 
 pub loop-i-preserved : goal.loop-i-preserved
 loop-i-preserved c =
-    let s = c.args in (
+    let s = c.args in
+    let l = c.loop-i in (
       search rules,
-      every_go (test s.positions s.sizes.now s.condition.now) c.loop-i.i 16 _ c.loop-i.invariant.1 (omega arith)
-          (and_join (sym c.entry_limited.ensures ∙ c.if-not-entry_limited.false) (sym c.condition_placed.ensures ∙ c.if-not-condition_placed.false)),
+      every_go (test s.positions s.sizes.now s.condition.now) l.i 16 _ l.invariant.1 (omega arith)
+          (and_join (sym c.entry_limited.ensures ∙ c.if-not-entry_limited.false)
+          (sym c.condition_placed.ensures ∙ c.if-not-condition_placed.false)),
     )
 
 pub returns : goal.returns
-returns c = let s = c.args in every-end (test s.positions s.sizes.now s.condition.now) c.loop-i.i 16 _ c.loop-i.invariant.1 (omega arith)
+returns c =
+    let s = c.args in
+    let l = c.loop-i in
+    every-end (test s.positions s.sizes.now s.condition.now) l.i 16 _ l.invariant.1 (omega arith)

@@ -18,7 +18,8 @@ test positions sizes condition i =
 abbrev pub invariant-loop-i : goal.invariant-loop-i
 invariant-loop-i l =
     (l.i ≤ 16)
-    × (every (test l.positions l.sizes l.condition) (numbers_from l.i (16 - l.i)) ≡ condition_valid l.positions l.sizes l.condition)
+    × (every (test l.positions l.sizes l.condition) (numbers_from l.i (16 - l.i))
+    ≡ condition_valid l.positions l.sizes l.condition)
 
 abbrev pub decreases-loop-i : goal.decreases-loop-i
 decreases-loop-i l = 16 - l.i

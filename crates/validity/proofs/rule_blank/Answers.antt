@@ -10,7 +10,8 @@ returns-then-rule-ne0 c = rw (ne_eqb _ _ c.if-rule-ne0.true)
 
 pub returns-then-not-same_entries : goal.returns-then-not-same_entries
 unfolding rule_blank
-returns-then-not-same_entries c = rw (eq-eqb _ _ c.if-rule-ne0.false, sym c.same_entries.ensures ∙ c.if-not-same_entries.true)
+returns-then-not-same_entries c =
+    rw (eq-eqb _ _ c.if-rule-ne0.false, sym c.same_entries.ensures ∙ c.if-not-same_entries.true)
 
 pub returns : goal.returns
 unfolding rule_blank
