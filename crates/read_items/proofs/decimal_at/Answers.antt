@@ -1,6 +1,6 @@
 -- `read_items::decimal_at` meets its contract.
 -- The invariant: the digits left, read on from n, give the whole, and n is at most the largest number of i digits.
-use Prim.Native.Nat.{ℕ, zero, suc, ◌+◌, ◌*◌, ◌-◌, ◌≤◌, ◌<◌}
+use Prim.Native.Nat.{ℕ, zero, suc, ◌+◌, ◌≤◌, ◌<◌}
 use mathlib.Core.Path.{◌≡◌, sym, ap, ◌∙◌}
 use native.Mathlib.Omega.{arith}
 use native.Mathlib.Numerals.{add-one}
@@ -8,12 +8,8 @@ use lib.ListN.{length, drop, drop_of_length-le}
 use borrow.Author.Rules.{rules}
 use Rattle.files_spec.specs.Reading.{digits, decimal_from, decimal}
 use Rattle.reader_laws.proofs.ByteLaws.{digits_some}
+use Rattle.read_items.proofs.decimal_at.Invariants.{largest}
 use Rattle.read_items.proofs.decimal_at.Goals as goal
-
--- the largest number of i digits
-abbrev largest : ℕ → ℕ
-largest zero = 0
-largest (suc i) = 10 * largest i + 9
 
 -- of two digits or fewer it is at most 99
 two_digits : (i : ℕ) → i < 3 → largest i ≤ 99

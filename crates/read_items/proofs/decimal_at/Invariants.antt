@@ -1,14 +1,15 @@
 -- `read_items::decimal_at` meets its contract.
 -- The invariant: the digits left, read on from n, give the whole, and n is at most the largest number of i digits.
-use Prim.Native.Nat.{ℕ, zero, suc, ◌+◌, ◌*◌, ◌-◌, ◌≤◌, ◌<◌}
-use mathlib.Core.Path.{◌≡◌, sym, ap, ◌∙◌}
-use native.Mathlib.Omega.{arith}
-use native.Mathlib.Numerals.{add-one}
-use lib.ListN.{length, drop, drop_of_length-le}
-use borrow.Author.Rules.{rules}
+use Prim.Native.Nat.{ℕ, zero, suc, ◌+◌, ◌*◌, ◌-◌, ◌≤◌}
+use mathlib.Core.Path.{◌≡◌}
+use lib.ListN.{length, drop}
 use Rattle.files_spec.specs.Reading.{digits, decimal_from, decimal}
-use Rattle.reader_laws.proofs.ByteLaws.{digits_some}
 use Rattle.read_items.proofs.decimal_at.Given as goal
+
+-- the largest number of i digits
+abbrev pub largest : ℕ → ℕ
+largest zero = 0
+largest (suc i) = 10 * largest i + 9
 
 abbrev pub invariant-loop-i : goal.invariant-loop-i
 invariant-loop-i l =

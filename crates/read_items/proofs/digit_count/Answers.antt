@@ -1,11 +1,8 @@
 -- `read_items::digit_count` meets its contract. The invariant: the digits passed and those left are all.
-use Prim.Native.Nat.{◌+◌, ◌≤◌, ◌-◌}
-use mathlib.Core.Path.{◌≡◌, ap}
+use mathlib.Core.Path.{ap, sym, ◌∙◌}
 use native.Mathlib.Omega.{arith}
-use lib.ListN.{length, drop}
+use lib.ListN.{length}
 use borrow.Author.Rules.{rules}
-use Rattle.model_spec.proofs.LoopLaws.{failed, passed}
-use Rattle.files_spec.specs.Reading.{digits}
 use Rattle.reader_laws.proofs.ByteLaws.{digits_none, digits-other, digits_more}
 use Rattle.read_items.proofs.digit_count.Goals as goal
 
@@ -13,14 +10,14 @@ pub returns-then-not-is_digit : goal.returns-then-not-is_digit
 returns-then-not-is_digit c =
     let s = c.args in
     let l = c.loop-end in
-    let other = failed c.is_digit.ensures c.if-not-is_digit.true-raw in
+    let other = sym c.is_digit.ensures ∙ c.if-not-is_digit.true in
     omega (arith, ap length (digits-other s.text.now l.end (omega arith) other))
 
 pub loop-end-preserved : goal.loop-end-preserved
 loop-end-preserved c =
     let s = c.args in
     let l = c.loop-end in
-    let digit = passed c.is_digit.ensures c.if-not-is_digit.false-raw in
+    let digit = sym c.is_digit.ensures ∙ c.if-not-is_digit.false in
     (search rules, omega (arith, ap length (digits_more s.text.now l.end (omega arith) digit)))
 
 pub returns : goal.returns

@@ -1,14 +1,13 @@
 -- `read_items::number` meets its contract.
 -- The digits are counted and judged, then the byte after them, then their number is made.
 use Prim.Native.Nat.{ℕ, ◌+◌, ◌≤◌, ◌<◌}
-use mathlib.Core.Path.{◌≡◌, ◌∙◌}
+use mathlib.Core.Path.{◌≡◌, ◌∙◌, sym}
 use mathlib.Core.Bool.{true, false}
 use mathlib.Core.List.{List, [], ◌∷◌}
 use native.Mathlib.Omega.{arith}
 use lib.ListN.{length, get_or, drop, length-drop}
 use lib.Seq.{drop-drop}
 use borrow.Author.Rules.{rules}
-use Rattle.model_spec.proofs.LoopLaws.{failed, passed}
 use Rattle.files_spec.specs.Reading.{refused, parsed, and_read, literal, digits, is_number, decimal, number}
 use Rattle.files_spec.proofs.NumberLaws.{digits-length, number-length}
 use Rattle.reader_laws.proofs.FoundLaws.{refused-found, parsed-found}
@@ -52,21 +51,22 @@ module _ (text : List ℕ) (at count ending : ℕ) (counted : count ≡ length (
 pub returns-then-not-number_formed : goal.returns-then-not-number_formed
 returns-then-not-number_formed c =
     let s = c.args in
-    let fails = failed c.number_formed.ensures c.if-not-number_formed.true-raw in
+    let fails = sym c.number_formed.ensures ∙ c.if-not-number_formed.true in
     refused-found _ _ s.text.now (misformed s.ending (drop s.at s.text.now) fails)
     c.no_number.ensures (omega arith)
 
 pub overflow_add-end : goal.overflow_add-end
 overflow_add-end c =
     let s = c.args in
-    omega (arith, inside s.text.now s.at _ s.ending c.digit_count-count.ensures (passed c.number_formed.ensures c.if-not-number_formed.false-raw))
+    let passes = sym c.number_formed.ensures ∙ c.if-not-number_formed.false in
+    omega (arith, inside s.text.now s.at _ s.ending c.digit_count-count.ensures passes)
 
 pub returns-then-text-end : goal.returns-then-text-end
 returns-then-text-end c =
     let n = c.digit_count-count in
     let s = c.args in
     refused-found _ _ s.text.now
-    (other_byte s.text.now s.at n.result s.ending n.ensures (passed c.number_formed.ensures c.if-not-number_formed.false-raw)
+    (other_byte s.text.now s.at n.result s.ending n.ensures (sym c.number_formed.ensures ∙ c.if-not-number_formed.false)
     (word_cut (s.ending ∷ []) s.text.now 0 (s.at + n.result) (omega arith) c.if-text-end.true))
     c.no_number-then-text-end.ensures (omega arith)
 
@@ -75,7 +75,7 @@ returns-then-text-end-2 c =
     let n = c.digit_count-count in
     let s = c.args in
     refused-found _ _ s.text.now
-    (other_byte s.text.now s.at n.result s.ending n.ensures (passed c.number_formed.ensures c.if-not-number_formed.false-raw)
+    (other_byte s.text.now s.at n.result s.ending n.ensures (sym c.number_formed.ensures ∙ c.if-not-number_formed.false)
     (word-other (s.ending ∷ []) s.text.now 0 (s.at + n.result) (omega arith)
     c.if-text-end.false c.if-text-end-2.true))
     c.no_number-then-text-end-2.ensures (omega arith)
@@ -83,7 +83,8 @@ returns-then-text-end-2 c =
 pub decimal_at-requires : goal.decimal_at-requires
 decimal_at-requires c =
     let s = c.args in
-    (search rules, omega (arith, (number-length (digits (drop s.at s.text.now)) (passed c.number_formed.ensures c.if-not-number_formed.false-raw)).1))
+    let passes = sym c.number_formed.ensures ∙ c.if-not-number_formed.false in
+    (search rules, omega (arith, (number-length (digits (drop s.at s.text.now)) passes).1))
 
 pub returns : goal.returns
 returns c =
@@ -91,5 +92,5 @@ returns c =
     let s = c.args in
     rw c.decimal_at.ensures
     (parsed-found _ _ s.text.now
-    (same_byte s.text.now s.at n.result s.ending n.ensures (passed c.number_formed.ensures c.if-not-number_formed.false-raw)
+    (same_byte s.text.now s.at n.result s.ending n.ensures (sym c.number_formed.ensures ∙ c.if-not-number_formed.false)
     c.if-text-end.false c.if-text-end-2.false))

@@ -2,7 +2,6 @@
 use native.Mathlib.Omega.{arith}
 use lib.Dec.{leb}
 use borrow.Author.Tests.{lt-leb}
-use borrow.Author.Rules.{rules}
 use Rattle.theory_spec.specs.Lists.{within}
 use Rattle.theory_spec.proofs.TestLaws.{within_iff}
 use Rattle.model_spec.proofs.LoopLaws.{first_fails, second_fails}

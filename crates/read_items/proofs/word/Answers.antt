@@ -1,10 +1,7 @@
 -- `read_items::word` meets its contract. The invariant: what is left of the key, read at `next`, decides the whole.
-use Prim.Native.Nat.{◌≤◌, ◌-◌}
-use mathlib.Core.Path.{◌≡◌, refl, sym, ◌∙◌}
+use mathlib.Core.Path.{refl, sym, ◌∙◌}
 use native.Mathlib.Omega.{arith}
-use lib.ListN.{length, drop}
 use borrow.Author.Rules.{rules}
-use Rattle.files_spec.specs.Reading.{literal}
 use Rattle.reader_laws.proofs.FoundLaws.{refused-found, parsed-found}
 use Rattle.reader_laws.proofs.ByteLaws.{word_end, word_cut, word-other, word_more}
 use Rattle.read_items.proofs.word.Goals as goal
