@@ -2,7 +2,6 @@
 use mathlib.Core.Path.{◌≡◌, ◌∙◌}
 use native.Mathlib.Omega.{arith}
 use lib.ListN.{drop}
-use borrow.Author.Rules.{rules}
 use Rattle.reader_laws.proofs.PlacementLaws.{constant_none, constant-below}
 use Rattle.read_entries.proofs.constant.Goals as goal
 

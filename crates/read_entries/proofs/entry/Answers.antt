@@ -1,17 +1,17 @@
 -- `read_entries::entry` meets its contract. The byte at the place decides between a variable and a constant;
 -- past the end of the text there is none, and a constant is read. Past the end of the sizes a size is 0.
-use Prim.Native.Nat.{ℕ, ◌+◌, min}
+use Prim.Native.Nat.{ℕ, ◌+◌, ◌≤◌, min}
 use mathlib.Core.Path.{◌≡◌, ◌∙◌}
-use mathlib.Core.Logic.{◌≢◌, ⊎_elim}
+use mathlib.Core.Logic.{◌≢◌}
 use mathlib.Core.List.{List}
 use native.Mathlib.Omega.{arith}
-use lib.ListN.{get_or, drop, get_or-eq_default}
+use lib.ListN.{length, get_or, drop, get_or-eq_default}
 use lib.Seq.{get_or-drop, drop-drop}
 use borrow.Author.Tests.{eq-eqb, ne_eqb}
-use borrow.Author.Rules.{rules}
 use Rattle.files_spec.specs.File.{variable_letter}
 use Rattle.files_spec.specs.Reading.{variable, constant, entry}
 use Rattle.read_entries.proofs.entry.Goals as goal
+use Rattle.read_entries.proofs.entry.Goals.{then-at-text+else-text-at-eq120, else-at-text}
 
 module _ (positions : ℕ) (sizes : List ℕ) (i ending : ℕ) (text : List ℕ) (at : ℕ) where
   -- the byte at a place of the text
@@ -30,6 +30,10 @@ module _ (positions : ℕ) (sizes : List ℕ) (i ending : ℕ) (text : List ℕ)
   unfolding entry
   unlettered d = rw (first, ne_eqb (get_or text at 0) variable_letter d)
 
+-- past the end there is no letter
+outside : (text : List ℕ) (at : ℕ) → length text ≤ at → get_or text at 0 ≢ variable_letter
+outside text at h e = omega (arith, get_or-eq_default text 0 {n = at} h)
+
 pub returns-then-text-at-eq120 : goal.returns-then-text-at-eq120
 returns-then-text-at-eq120 c =
     let s = c.args in
@@ -39,11 +43,19 @@ returns-then-text-at-eq120 c =
 pub returns-then-i-lt-PLACE_COUNT : goal.returns-then-i-lt-PLACE_COUNT
 returns-then-i-lt-PLACE_COUNT c =
     let s = c.args in
-    unlettered (min s.positions 16) s.sizes.now s.i s.ending s.text.now s.at ((let s = c.args in ⊎_elim (λ w. w.2.left) (λ w e. omega (arith, get_or-eq_default s.text.now 0 {n = s.at} w.left)) c.if-at-text.branch))
+    unlettered (min s.positions 16) s.sizes.now s.i s.ending s.text.now s.at
+    (elim c.if-at-text.branch [
+      then-at-text+else-text-at-eq120 w ↦ w.if-text-at-eq120.false |
+      else-at-text w ↦ outside s.text.now s.at w.if-at-text.false
+    ])
     ∙ c.constant.ensures
 
 pub returns : goal.returns
 returns c =
     let s = c.args in
-    unlettered (min s.positions 16) s.sizes.now s.i s.ending s.text.now s.at ((let s = c.args in ⊎_elim (λ w. w.2.left) (λ w e. omega (arith, get_or-eq_default s.text.now 0 {n = s.at} w.left)) c.if-at-text.branch))
+    unlettered (min s.positions 16) s.sizes.now s.i s.ending s.text.now s.at
+    (elim c.if-at-text.branch [
+      then-at-text+else-text-at-eq120 w ↦ w.if-text-at-eq120.false |
+      else-at-text w ↦ outside s.text.now s.at w.if-at-text.false
+    ])
     ∙ rw (get_or-eq_default s.sizes.now 0 {n = s.i} (omega arith)) c.constant-2.ensures

@@ -1,13 +1,10 @@
 -- `read_entries::variable` meets its contract: a number of a position, and its entry is that number and 15.
-use mathlib.Core.Path.{◌≡◌}
 use Prim.Native.Nat.{◌+◌, min}
 use native.Mathlib.Omega.{arith}
 use lib.ListN.{drop}
-use borrow.Author.Rules.{rules}
 use Rattle.theory_spec.specs.Lists.{within}
 use Rattle.theory_spec.proofs.TestLaws.{within_iff}
 use Rattle.files_spec.specs.Reading.{parsed, number, number_within, variable}
-use Rattle.reader_laws.specs.How.Found.{found}
 use Rattle.reader_laws.proofs.FoundLaws.{parsed-found, then-refused, then-parsed, unless_value}
 use Rattle.read_entries.proofs.variable.Goals as goal
 
@@ -32,4 +29,5 @@ unfolding variable
 returns c =
     let text = c.args.text.now in
     parsed-found _ _ text
-    (then-parsed _ _ text (λ j rest. parsed (15 + j) rest) (rw c.at_most.ensures at c.number_within-position.ensures) c.if-outcome-ne0.false)
+    (then-parsed _ _ text (λ j rest. parsed (15 + j) rest)
+    (rw c.at_most.ensures at c.number_within-position.ensures) c.if-outcome-ne0.false)

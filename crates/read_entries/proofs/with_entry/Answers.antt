@@ -2,10 +2,9 @@
 use mathlib.Core.Path.{sym}
 use native.Mathlib.Omega.{arith}
 use lib.Seq.{set_out}
-use borrow.Author.Rules.{rules}
 use Rattle.read_entries.proofs.with_entry.Goals as goal
 
 pub returns-else-i-lt-PLACE_COUNT : goal.returns-else-i-lt-PLACE_COUNT
 returns-else-i-lt-PLACE_COUNT c =
     let a = c.args in
-    sym (set_out a.entries a.i a.value (omega (arith, c.type_inv.0, c.if-i-lt-PLACE_COUNT.false)))
+    sym (set_out a.entries a.i a.value (omega arith))
