@@ -2,7 +2,6 @@
 use Prim.Native.Nat.{◌-◌, ◌/◌}
 use native.Mathlib.Nat.{mod-lt, mul-le-mul}
 use native.Mathlib.Omega.{arith}
-use borrow.Author.Rules.{rules}
 use Rattle.search_laws.proofs.LookupLaws.{tail_none, tail_one, tail_two}
 use Rattle.lookup.proofs.tail_index.Goals as goal
 

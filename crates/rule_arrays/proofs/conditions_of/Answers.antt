@@ -1,11 +1,9 @@
 -- `rule_arrays::conditions_of` meets its contract. The invariant: the first places hold the conditions of their rules,
 -- the others still zeros.
-use mathlib.Core.Path.{◌≡◌, refl}
-use mathlib.Core.List.{map}
-use Prim.Native.Nat.{◌≤◌, ◌-◌}
+use mathlib.Core.Path.{refl}
 use native.Mathlib.Omega.{arith}
 use borrow.Author.Rules.{rules}
-use Rattle.model_spec.proofs.CopyLaws.{copied, row_more, row-whole}
+use Rattle.model_spec.proofs.CopyLaws.{row_more, row-whole}
 use Rattle.rule_arrays.proofs.conditions_of.Goals as goal
 
 pub loop-i-init : goal.loop-i-init

@@ -7,9 +7,7 @@ use native.Mathlib.Omega.{arith}
 use lib.Dec.{eqb}
 use lib.ListN.{length, get_or, take, length-take}
 use lib.Seq.{get_or-take}
-use borrow.Author.Rules.{rules}
 use borrow.Author.Tests.{eq-eqb, ne_eqb}
-use Rattle.theory_spec.specs.Lists.{every, numbers_from}
 use Rattle.theory_spec.proofs.ListLaws.{or_left, or_right}
 use Rattle.model_spec.proofs.LoopLaws.{every_go, every_stop, every-end}
 use Rattle.search_spec.specs.Query.{meets_goal}

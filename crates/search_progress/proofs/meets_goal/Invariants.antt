@@ -1,18 +1,11 @@
 -- `search_progress::meets_goal` meets its contract. The invariant: the bytes from place i on, of the goal's first
 -- sixteen, decide the whole.
-use mathlib.Core.Path.{◌≡◌, ap, ◌∙◌}
-use mathlib.Core.Logic.{⊎_elim}
+use mathlib.Core.Path.{◌≡◌}
 use mathlib.Core.Bool.{◌||◌}
-use Prim.Native.Nat.{◌≤◌, ◌<◌, ◌-◌}
-use native.Mathlib.Omega.{arith}
+use Prim.Native.Nat.{◌≤◌, ◌-◌}
 use lib.Dec.{eqb}
-use lib.ListN.{length, get_or, take, length-take}
-use lib.Seq.{get_or-take}
-use borrow.Author.Rules.{rules}
-use borrow.Author.Tests.{eq-eqb, ne_eqb}
+use lib.ListN.{length, get_or, take}
 use Rattle.theory_spec.specs.Lists.{every, numbers_from}
-use Rattle.theory_spec.proofs.ListLaws.{or_left, or_right}
-use Rattle.model_spec.proofs.LoopLaws.{every_go, every_stop, every-end}
 use Rattle.search_spec.specs.Query.{meets_goal}
 use Rattle.search_progress.proofs.meets_goal.Given as goal
 

@@ -1,6 +1,5 @@
 -- `search_progress::noted` meets its contract: by the tests on the way.
 use mathlib.Core.Path.{sym, ◌∙◌}
-use borrow.Author.Rules.{rules}
 use borrow.Author.Tests.{lt-ltb, le-ltb}
 use Rattle.search_laws.specs.How.Visits.{best_at, noted_moves}
 use Rattle.search_progress.proofs.noted.Goals as goal

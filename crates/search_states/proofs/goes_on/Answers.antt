@@ -1,7 +1,6 @@
 -- `search_states::goes_on` meets its contract: by the tests on the way.
 use mathlib.Core.Path.{sym, ◌∙◌}
 use lib.Dec.{leb}
-use borrow.Author.Rules.{rules}
 use borrow.Author.Tests.{lt-leb, le-leb, eq-eqb, ne_eqb}
 use Rattle.model_spec.proofs.LoopLaws.{first_fails, second_fails}
 use Rattle.search_states.proofs.goes_on.Goals as goal

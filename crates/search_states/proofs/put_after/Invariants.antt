@@ -1,15 +1,10 @@
 -- `search_states::put_after` meets its contract. The invariant: the first i places hold the values of the effect's
 -- entries, the
 -- others what they held.
-use mathlib.Core.Path.{◌≡◌, sym, ◌∙◌}
-use Prim.Native.Nat.{◌≤◌, ◌<◌, ◌-◌, min}
-use native.Mathlib.Omega.{arith}
-use lib.ListN.{length}
-use borrow.Author.Rules.{rules}
+use mathlib.Core.Path.{◌≡◌}
+use Prim.Native.Nat.{◌≤◌, ◌-◌}
 use Rattle.model_spec.specs.States.{successor}
-use Rattle.model_spec.proofs.StateLaws.{successor_at, successor-length}
 use Rattle.search_laws.specs.How.Visits.{laid_over}
-use Rattle.search_laws.proofs.StateLoopLaws.{laid_none, laid_more}
 use Rattle.search_states.proofs.put_after.Given as goal
 
 abbrev pub invariant-loop-i : goal.invariant-loop-i

@@ -1,15 +1,11 @@
 -- `search_states::runs_within` meets its contract. The invariant: what is left of the condition and the state from
 -- place i on, to the positions, decides the whole.
-use mathlib.Core.Path.{◌≡◌, refl, sym, ap, ◌∙◌}
+use mathlib.Core.Path.{◌≡◌}
 use mathlib.Core.List.{map}
-use Prim.Native.Nat.{ℕ, ◌≤◌, ◌<◌, ◌-◌, min}
-use native.Mathlib.Omega.{arith}
-use lib.ListN.{length, get_or, take, drop, length-take}
-use lib.Seq.{get_or-take}
-use borrow.Author.Rules.{rules}
+use Prim.Native.Nat.{◌≤◌, ◌-◌, min}
+use lib.ListN.{take, drop}
 use Rattle.theory_spec.specs.Lists.{same}
-use Rattle.model_spec.specs.States.{value_of, values_of}
-use Rattle.model_spec.proofs.LoopLaws.{same_go, same_stop, same_end}
+use Rattle.model_spec.specs.States.{value_of}
 use Rattle.search_laws.specs.How.Visits.{meets_within}
 use Rattle.search_states.proofs.runs_within.Given as goal
 

@@ -1,5 +1,4 @@
 -- `tally::is_refusal` meets its contract.
-use borrow.Author.Rules.{rules}
 use borrow.Author.Tests.{eq-eqb, ne_eqb}
 use Rattle.tally.proofs.is_refusal.Goals as goal
 

@@ -1,6 +1,5 @@
 -- `tally::raised` meets its contract.
 use native.Mathlib.Omega.{arith}
-use borrow.Author.Rules.{rules}
 use Rattle.tally.proofs.raised.Goals as goal
 
 pub returns-then-count-more : goal.returns-then-count-more

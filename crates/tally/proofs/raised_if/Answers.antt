@@ -1,5 +1,4 @@
 -- `tally::raised_if` meets its contract.
-use borrow.Author.Rules.{rules}
 use Rattle.tally.proofs.raised_if.Goals as goal
 
 pub returns-then-hit : goal.returns-then-hit

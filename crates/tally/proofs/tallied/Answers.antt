@@ -1,7 +1,6 @@
 -- `tally::tallied` meets its contract.
 use mathlib.Core.Path.{◌≡◌, sym, subst}
 use Prim.Native.Nat.{ℕ}
-use borrow.Author.Rules.{rules}
 use Rattle.search_spec.specs.Tallies.{tallied_of, TallyMeaning}
 use Rattle.search_spec.specs.declared.Tally.{Tally}
 use Rattle.search_spec.proofs.TallyLaws.{tally_meaning}
