@@ -1,13 +1,11 @@
 -- `sequences::profile_of` meets its contract. The invariant: the vectors so far are those of the first i moves, the
 -- cost so far plus the cost of the moves left is the whole cost, and the cost so far is at most 255 for each of the
 -- first i moves.
-use mathlib.Core.Path.{◌≡◌, refl}
-use Prim.Native.Nat.{◌+◌, ◌*◌, ◌≤◌, ◌-◌}
+use mathlib.Core.Path.{refl}
 use native.Mathlib.Omega.{arith}
-use lib.ListN.{length, get_or, take, drop}
 use borrow.Author.Rules.{rules}
-use Rattle.model_spec.specs.Rules.{rule_at, sequence_cost}
-use Rattle.macros_spec.specs.Composition.{empty_lines, composed_from, composed, as_vectors}
+use Rattle.model_spec.specs.Rules.{rule_at}
+use Rattle.macros_spec.specs.Composition.{empty_lines, composed_from, composed}
 use Rattle.model_spec.proofs.MoveLaws.{numbered_at}
 use Rattle.macros_spec.proofs.MoveLoopLaws.{cost_go, cost-end}
 use Rattle.macros_spec.proofs.CompositionLoopLaws.{compose_go, compose-end}
@@ -33,9 +31,9 @@ pub loop-i-preserved : goal.loop-i-preserved
 unfolding rule_at
 loop-i-preserved c =
     let a = c.args in
-    let left = cost_go a.t1 a.moves.now c.loop-i.i _ refl (omega arith) in (
+    let left = cost_go a.set a.moves.now c.loop-i.i _ refl (omega arith) in (
       search rules,
-      compose_go a.t1 a.moves.now c.loop-i.i c.loop-i.vectors c.loop-i.invariant.1 _ _ refl
+      compose_go a.set a.moves.now c.loop-i.i c.loop-i.vectors c.loop-i.invariant.1 _ _ refl
           c.extended-vectors.ensures.0 (omega arith),
       omega (arith, left),
       search rules,
@@ -44,6 +42,6 @@ loop-i-preserved c =
 pub returns : goal.returns
 returns c =
     let a = c.args in (
-      compose-end a.t1 a.moves.now c.loop-i.i c.loop-i.vectors c.loop-i.invariant.1 (omega arith),
-      omega (arith, cost-end a.t1 a.moves.now c.loop-i.i (omega arith)),
+      compose-end a.set a.moves.now c.loop-i.i c.loop-i.vectors c.loop-i.invariant.1 (omega arith),
+      omega (arith, cost-end a.set a.moves.now c.loop-i.i (omega arith)),
     )

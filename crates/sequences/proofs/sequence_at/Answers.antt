@@ -2,10 +2,10 @@
 -- and then the rules of the array from `start` on.
 use mathlib.Core.Path.{◌≡◌, sym, ap, ◌∙◌}
 use mathlib.Core.List.{List, [], ◌++◌, append-nil}
-use Prim.Native.Nat.{ℕ, ◌-◌, ◌≤◌}
+use Prim.Native.Nat.{ℕ, ◌-◌}
 use native.Mathlib.Nat.{mod-lt}
 use native.Mathlib.Omega.{arith}
-use lib.ListN.{length, drop, length-set}
+use lib.ListN.{drop, length-set}
 use borrow.Author.Rules.{rules}
 use Rattle.theory_spec.specs.How.Indices.{sequence_of}
 use Rattle.tables_laws.specs.How.ShortSequences.{short_sequence}

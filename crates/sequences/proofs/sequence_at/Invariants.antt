@@ -1,15 +1,11 @@
 -- `sequences::sequence_at` meets its contract. The invariant: the sequence is that of `rest`, of at most `start` rules,
 -- and then the rules of the array from `start` on.
-use mathlib.Core.Path.{◌≡◌, sym, ap, ◌∙◌}
-use mathlib.Core.List.{List, [], ◌++◌, append-nil}
-use Prim.Native.Nat.{ℕ, ◌-◌, ◌≤◌}
-use native.Mathlib.Nat.{mod-lt}
-use native.Mathlib.Omega.{arith}
-use lib.ListN.{length, drop, length-set}
-use borrow.Author.Rules.{rules}
+use mathlib.Core.Path.{◌≡◌}
+use mathlib.Core.List.{◌++◌}
+use Prim.Native.Nat.{◌≤◌}
+use lib.ListN.{length, drop}
 use Rattle.theory_spec.specs.How.Indices.{sequence_of}
 use Rattle.tables_laws.specs.How.ShortSequences.{short_sequence}
-use Rattle.tables_laws.proofs.SequenceLoopLaws.{sequence_go, sequence-end, sequence_full}
 use Rattle.sequences.proofs.sequence_at.Given as goal
 
 abbrev pub invariant-loop-start : goal.invariant-loop-start
