@@ -7,7 +7,6 @@ use Prim.Native.Nat.{ℕ, ◌<◌}
 use native.Mathlib.Omega.{arith}
 use lib.Dec.{eqb}
 use borrow.Author.Tests.{eqb-true, eq-eqb, ne_eqb}
-use borrow.Author.Rules.{rules}
 use Rattle.theory_spec.proofs.ListLaws.{and_split}
 use Rattle.macros_spec.specs.Composition.{Lines, lines_of}
 use Rattle.macros_spec.specs.declared.Touched.{Touched}
