@@ -1,7 +1,6 @@
 -- `table_sizes::shape_refusal` meets its contract: a length that is refused is refused for the same cause, and a length
 -- that is told decides the rest.
 use mathlib.Core.Path.{sym, ap, ◌∙◌}
-use borrow.Author.Rules.{rules}
 use Rattle.tables_spec.specs.declared.TableSize.{TableSize}
 use Rattle.tables_spec.proofs.AnswerLaws.{shape-refused, shape_misfit, shape-fits}
 use Rattle.table_sizes.proofs.shape_refusal.Goals as goal

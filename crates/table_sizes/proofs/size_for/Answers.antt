@@ -2,7 +2,6 @@
 use mathlib.Core.Path.{◌≡◌, sym, ap, ◌∙◌}
 use Prim.Native.Nat.{min, ◌*◌}
 use native.Mathlib.Omega.{arith}
-use borrow.Author.Rules.{rules}
 use Rattle.tables_spec.specs.Table.{sequence_count, table_entries}
 use Rattle.tables_spec.specs.Answers.{size_with}
 use Rattle.tables_spec.proofs.CountLaws.{count_byte}
