@@ -1,14 +1,10 @@
 -- `read_lines::list_line` meets its contract.
 -- The invariant: the first i items stand in the array, and what is left of the text decides the line.
-use mathlib.Core.Path.{◌≡◌, sym}
-use Prim.Native.Nat.{◌-◌, min}
+use mathlib.Core.Path.{sym}
 use native.Mathlib.Omega.{arith}
-use lib.ListN.{drop}
-use borrow.Author.Rules.{rules}
-use Rattle.files_spec.specs.Reading.{items_after}
-use Rattle.reader_laws.specs.How.Parts.{keyed_list, item_of}
+use Rattle.reader_laws.specs.How.Parts.{keyed_list}
 use Rattle.reader_laws.proofs.FoundLaws.{then-refused, then-parsed}
-use Rattle.reader_laws.proofs.ReadLoopLaws.{SoFar, items_list, fill_start, fill_go, fill_stop, fill_end}
+use Rattle.reader_laws.proofs.ReadLoopLaws.{items_list, fill_start, fill_go, fill_stop, fill_end}
 use Rattle.read_lines.proofs.list_line.Goals as goal
 
 pub returns-then-outcome-ne0 : goal.returns-then-outcome-ne0
@@ -24,12 +20,12 @@ loop-i-init c =
 pub returns-then-fault-ne0 : goal.returns-then-fault-ne0
 returns-then-fault-ne0 c =
     rw (← c.at_most-held.ensures)
-    (fill_stop (items_list _) c.loop-i.invariant _ _ _ _ c.loop-i-test.taken
+    (fill_stop (items_list _) c.loop-i.invariant _ _ _ _ c.loop-i-test.true
     (rw c.ending.ensures at c.list_item-item.ensures) c.if-fault-ne0.true)
 
 pub loop-i-preserved : goal.loop-i-preserved
 loop-i-preserved c =
-    fill_go (items_list _) c.loop-i.invariant _ _ c.loop-i-test.taken
+    fill_go (items_list _) c.loop-i.invariant _ _ c.loop-i-test.true
     (rw c.ending.ensures at c.list_item-item.ensures) c.if-fault-ne0.false
 
 pub returns : goal.returns

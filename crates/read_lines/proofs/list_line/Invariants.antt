@@ -1,14 +1,10 @@
 -- `read_lines::list_line` meets its contract.
 -- The invariant: the first i items stand in the array, and what is left of the text decides the line.
-use mathlib.Core.Path.{◌≡◌, sym}
-use Prim.Native.Nat.{◌-◌, min}
-use native.Mathlib.Omega.{arith}
+use Prim.Native.Nat.{◌-◌}
 use lib.ListN.{drop}
-use borrow.Author.Rules.{rules}
 use Rattle.files_spec.specs.Reading.{items_after}
 use Rattle.reader_laws.specs.How.Parts.{keyed_list, item_of}
-use Rattle.reader_laws.proofs.FoundLaws.{then-refused, then-parsed}
-use Rattle.reader_laws.proofs.ReadLoopLaws.{SoFar, items_list, fill_start, fill_go, fill_stop, fill_end}
+use Rattle.reader_laws.proofs.ReadLoopLaws.{SoFar}
 use Rattle.read_lines.proofs.list_line.Given as goal
 
 abbrev pub invariant-loop-i : goal.invariant-loop-i

@@ -1,6 +1,5 @@
 -- `read_lines::number_line` meets its contract: the key, and then the number.
 use mathlib.Core.Path.{◌∙◌}
-use borrow.Author.Rules.{rules}
 use Rattle.reader_laws.specs.How.Parts.{keyed_number}
 use Rattle.reader_laws.proofs.FoundLaws.{then-refused, then-parsed}
 use Rattle.read_lines.proofs.number_line.Goals as goal
