@@ -1,14 +1,10 @@
 -- `read_file::rule_list` meets its contract.
 -- The invariant: the first k rules stand in the array, and what is left of the text decides the list.
 use mathlib.Core.Path.{◌≡◌, refl}
-use Prim.Native.Nat.{◌-◌, min}
+use Prim.Native.Nat.{min}
 use native.Mathlib.Omega.{arith}
-use lib.ListN.{drop}
-use borrow.Author.Rules.{rules}
-use Rattle.model_spec.specs.Rules.{blank_rule}
-use Rattle.files_spec.specs.Reading.{rule_lines, rules_after, rule_list}
-use Rattle.reader_laws.specs.How.Found.{found}
-use Rattle.reader_laws.proofs.ReadLoopLaws.{SoFar, rules_list, fill_start, fill_go, fill_stop, fill_end}
+use Rattle.files_spec.specs.Reading.{rule_list}
+use Rattle.reader_laws.proofs.ReadLoopLaws.{rules_list, fill_start, fill_go, fill_stop, fill_end}
 use Rattle.read_file.proofs.rule_list.Goals as goal
 
 pub loop-k-init : goal.loop-k-init
@@ -20,12 +16,14 @@ loop-k-init c =
 
 pub returns-then-outcome-ne0 : goal.returns-then-outcome-ne0
 returns-then-outcome-ne0 c =
-    fill_stop (rules_list _ _) c.loop-k.invariant _ _ _ _ c.loop-k-test.true ((let m : min c.args.positions 16 ≡ c.args.positions = omega (arith, c.requires.0) in rw m at c.rule_lines-lines.ensures))
+    let m : min c.args.positions 16 ≡ c.args.positions = omega arith in
+    fill_stop (rules_list _ _) c.loop-k.invariant _ _ _ _ c.loop-k-test.true (rw m at c.rule_lines-lines.ensures)
     c.if-outcome-ne0.true
 
 pub loop-k-preserved : goal.loop-k-preserved
 loop-k-preserved c =
-    fill_go (rules_list _ _) c.loop-k.invariant _ _ c.loop-k-test.true ((let m : min c.args.positions 16 ≡ c.args.positions = omega (arith, c.requires.0) in rw m at c.rule_lines-lines.ensures))
+    let m : min c.args.positions 16 ≡ c.args.positions = omega arith in
+    fill_go (rules_list _ _) c.loop-k.invariant _ _ c.loop-k-test.true (rw m at c.rule_lines-lines.ensures)
     c.if-outcome-ne0.false
 
 pub returns : goal.returns
