@@ -20,7 +20,8 @@ entry-due : (positions : ℕ) (sizes : List ℕ) (i v : ℕ) → i < positions �
 entry-due positions sizes i v h e = e ∙ ap (λ n. cond (ltb 1 n) (16 + i) 0) (sym (width-position positions sizes i h))
 
 -- beyond the positions there is a single value
-zero-due : (positions : ℕ) (sizes : List ℕ) (k : ℕ) → positions ≤ k → cond (many_valued positions sizes k) (16 + k) 0 ≡ 0
+zero-due : (positions : ℕ) (sizes : List ℕ) (k : ℕ) → positions ≤ k
+    → cond (many_valued positions sizes k) (16 + k) 0 ≡ 0
 zero-due positions sizes k h = rw (width_beyond positions sizes k h)
 
 pub loop-i-init : goal.loop-i-init
@@ -45,10 +46,11 @@ loop-i-smaller c = omega (arith, c.smaller-count.ensures)
 pub loop-i-preserved : goal.loop-i-preserved
 loop-i-preserved c =
     let l = c.loop-i in
-    let within : l.i < 16 = omega (arith, c.smaller-count.ensures) in (
+    let count = c.smaller-count.ensures in
+    let within : l.i < 16 = omega (arith, count) in (
       search rules,
       search rules,
-      fill_go _ l.i 16 l.entries _ l.invariant.2 _ (entry-due _ _ _ _ (omega (arith, c.smaller-count.ensures)) c.own_entry.ensures)
+      fill_go _ l.i 16 l.entries _ l.invariant.2 _ (entry-due _ _ _ _ (omega (arith, count)) c.own_entry.ensures)
           within (omega (arith, within)),
       zeros-behind l.i 16 l.entries _ l.invariant.3 within,
     )

@@ -59,5 +59,6 @@ pub returns : goal.returns
 returns c =
     let l = c.loop-i in
     let v : Vectors = l.sequence in
-    let own : v ≡ as_vectors (some (lines_in v)) = λ i. record { admitted = l.invariant.1 i; condition = v.condition; effect = v.effect } in
+    let own : v ≡ as_vectors (some (lines_in v)) =
+    λ i. record { admitted = l.invariant.1 i; condition = v.condition; effect = v.effect } in
     own ∙ ap as_vectors (unify-end c.args.asked l.i (lines_in v) _ l.invariant.2 (omega arith))
