@@ -19,8 +19,8 @@ loop-k-preserved c =
     let h = c.loop-k-test.true in
     let same = sym (ap (ltb 1) c.width_at.ensures) in
     elim c.if-width_at-gt1.branch [
-      | then-width_at-gt1 w ↦ put_in _ l.wide l.k l.invariant h (same ∙ lt-ltb _ _ w.if-width_at-gt1.true) _ w.wide-is
-      | else-width_at-gt1 w ↦ left_out _ l.wide l.k l.invariant h (same ∙ le-ltb _ _ w.if-width_at-gt1.false) _ w.wide-is
+      | then-width_at-gt1 w ↦ put_in _ _ _ l.invariant h (same ∙ lt-ltb _ _ w.if-width_at-gt1.true) _ w.wide-is
+      | else-width_at-gt1 w ↦ left_out _ _ _ l.invariant h (same ∙ le-ltb _ _ w.if-width_at-gt1.false) _ w.wide-is
     ]
 
 pub returns : goal.returns
