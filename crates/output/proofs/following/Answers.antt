@@ -1,6 +1,5 @@
 -- `output::following` meets its contract: the place is below the last, or the last.
 use native.Mathlib.Omega.{arith}
-use borrow.Author.Rules.{rules}
 use Rattle.output_laws.specs.How.Overlay.{place_after}
 use Rattle.output.proofs.following.Goals as goal
 

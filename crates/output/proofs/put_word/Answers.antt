@@ -1,12 +1,12 @@
 -- `output::put_word` meets its contract. The invariant: the bytes from i on remain.
 use mathlib.Core.Path.{◌≡◌}
 use mathlib.Core.List.{List, [], ◌∷◌, ◌++◌}
-use Prim.Native.Nat.{ℕ, ◌+◌, ◌-◌, ◌≤◌, ◌<◌}
+use Prim.Native.Nat.{ℕ, ◌+◌, ◌<◌}
 use native.Mathlib.Numerals.{add-one}
 use lib.ListN.{length, get_or, drop, drop_of_length-le}
 use lib.Seq.{drop-cons}
 use borrow.Author.Rules.{rules}
-use Rattle.output_laws.proofs.OverlayLaws.{Remains, remains_all, remains-length, remains_none, remains-rest}
+use Rattle.output_laws.proofs.OverlayLaws.{remains_all, remains-length, remains_none, remains-rest}
 use Rattle.output.proofs.put_word.Goals as goal
 
 -- the next byte
