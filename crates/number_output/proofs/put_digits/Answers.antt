@@ -1,5 +1,4 @@
 -- `number_output::put_digits` meets its contract: one, two or three digits, laid one after the other.
-use borrow.Author.Rules.{rules}
 use Rattle.files_spec.proofs.TextLaws.{numeral_one, numeral_two, numeral_three}
 use Rattle.output_laws.proofs.OverlayLaws.{laid-append}
 use Rattle.number_output.proofs.put_digits.Goals as goal

@@ -1,5 +1,4 @@
 -- `number_output::put_number` meets its contract: the number, or 999 where it is larger, has at most three digits.
-use borrow.Author.Rules.{rules}
 use Rattle.number_output.proofs.put_number.Goals as goal
 
 pub returns : goal.returns

@@ -1,5 +1,4 @@
 -- `number_output::put_number_line` meets its contract: the key, the number and the line feed, laid one after the other.
-use borrow.Author.Rules.{rules}
 use Rattle.output_laws.proofs.OverlayLaws.{laid-append}
 use Rattle.number_output.proofs.put_number_line.Goals as goal
 
