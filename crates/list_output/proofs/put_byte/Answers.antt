@@ -1,6 +1,5 @@
 -- `list_output::put_byte` meets its contract: a byte has at most three digits.
 use native.Mathlib.Omega.{arith}
-use borrow.Author.Rules.{rules}
 use Rattle.output_laws.proofs.OverlayLaws.{shown-number}
 use Rattle.list_output.proofs.put_byte.Goals as goal
 

@@ -1,15 +1,9 @@
 -- `list_output::put_numbers` meets its contract: of no item there is the line feed alone. The loop's invariant: the
--- items
--- from i on remain, each with the byte that ends it.
-use mathlib.Core.List.{[]}
-use Prim.Native.Nat.{◌-◌, ◌≤◌}
+-- items from i on remain, each with the byte that ends it.
 use native.Mathlib.Omega.{arith}
-use lib.Seq.{slice}
 use borrow.Author.Rules.{rules}
 use Rattle.files_spec.specs.Text.{numeral}
-use Rattle.output_laws.specs.How.Overlay.{list_text}
-use Rattle.files_spec.proofs.TextLaws.{ended}
-use Rattle.output_laws.proofs.OverlayLaws.{Remains, remains_all, remains-length, remains_none}
+use Rattle.output_laws.proofs.OverlayLaws.{remains_all, remains-length, remains_none}
 use Rattle.output_laws.proofs.WriteLoopLaws.{list_none, list_all, ended-rest, ended_none}
 use Rattle.list_output.proofs.put_numbers.Goals as goal
 

@@ -1,20 +1,19 @@
 -- `list_output::put_numbers` meets its contract: of no item there is the line feed alone. The loop's invariant: the
--- items
--- from i on remain, each with the byte that ends it.
+-- items from i on remain, each with the byte that ends it.
 use mathlib.Core.List.{[]}
 use Prim.Native.Nat.{◌-◌, ◌≤◌}
-use native.Mathlib.Omega.{arith}
 use lib.Seq.{slice}
-use borrow.Author.Rules.{rules}
 use Rattle.files_spec.specs.Text.{numeral}
 use Rattle.output_laws.specs.How.Overlay.{list_text}
 use Rattle.files_spec.proofs.TextLaws.{ended}
-use Rattle.output_laws.proofs.OverlayLaws.{Remains, remains_all, remains-length, remains_none}
-use Rattle.output_laws.proofs.WriteLoopLaws.{list_none, list_all, ended-rest, ended_none}
+use Rattle.output_laws.proofs.OverlayLaws.{Remains}
 use Rattle.list_output.proofs.put_numbers.Given as goal
 
 abbrev pub invariant-loop-i : goal.invariant-loop-i
-invariant-loop-i l = (l.i ≤ l.many) × Remains l.at (list_text numeral l.count l.numbers) l.initial.text l.next (ended numeral (slice l.i l.many l.numbers) []) l.text
+invariant-loop-i l =
+    (l.i ≤ l.many)
+    × Remains l.at (list_text numeral l.count l.numbers) l.initial.text l.next
+    (ended numeral (slice l.i l.many l.numbers) []) l.text
 
 abbrev pub decreases-loop-i : goal.decreases-loop-i
 decreases-loop-i l = l.many - l.i
