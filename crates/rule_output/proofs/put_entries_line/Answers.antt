@@ -1,5 +1,4 @@
 -- `rule_output::put_entries_line` meets its contract: the key and the list, laid one after the other.
-use borrow.Author.Rules.{rules}
 use Rattle.output_laws.proofs.OverlayLaws.{laid-append}
 use Rattle.rule_output.proofs.put_entries_line.Goals as goal
 

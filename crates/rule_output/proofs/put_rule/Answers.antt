@@ -3,12 +3,10 @@ use mathlib.Core.Path.{◌≡◌}
 use mathlib.Core.List.{[], ◌∷◌, ◌++◌}
 use Prim.Native.Nat.{ℕ, ◌≤◌}
 use native.Mathlib.Omega.{arith}
-use borrow.Author.Rules.{rules}
 use Rattle.model_spec.specs.declared.Rule.{Rule}
 use Rattle.files_spec.specs.Text.{bytes, line_feed, line}
 use Rattle.files_spec.specs.File.{entry_text, rule_text}
 use Rattle.output_laws.specs.How.Overlay.{shown_numeral, list_text}
-use Rattle.output_laws.proofs.ByteLaws.{cost_byte}
 use Rattle.output_laws.proofs.OverlayLaws.{shown-number, laid-append}
 use Rattle.output_laws.proofs.WriteLoopLaws.{list-line}
 use Rattle.rule_output.proofs.put_rule.Goals as goal
@@ -28,14 +26,9 @@ pieces positions rule byte =
 
 pub returns : goal.returns
 returns c =
-    ?
-
--- OLD at After-slice_known4: let effect = c.before.before in
---       let condition = condition_of effect in
---       let cost = cost_of condition in
---       let start = start_of cost in
---       let rule = start.args.rule in
---       rw (pieces start.args.positions rule (cost_byte rule _ start.good.1.1.0))
---       (laid-append
---       (laid-append cost.put-number-line.ensures condition.put-entries-line.ensures)
---       effect.put-entries-line2.ensures)
+    let rule = c.args.rule in
+    let byte : rule.cost ≤ 255 = omega arith in
+    rw (pieces c.args.positions rule byte)
+    (laid-append
+    (laid-append c.put_number_line-first.ensures c.put_entries_line-second.ensures)
+    c.put_entries_line.ensures)
