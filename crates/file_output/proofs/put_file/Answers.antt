@@ -4,13 +4,11 @@ use mathlib.Core.List.{[], ◌∷◌, ◌++◌}
 use Prim.Native.Nat.{◌≤◌}
 use native.Mathlib.Omega.{arith}
 use lib.ListN.{take}
-use borrow.Author.Rules.{rules}
 use Rattle.theory_spec.specs.Lists.{flat}
 use Rattle.model_spec.specs.declared.RuleSet.{RuleSet}
 use Rattle.files_spec.specs.Text.{bytes, line_feed, numeral, line}
 use Rattle.files_spec.specs.File.{rule_text, render}
 use Rattle.output_laws.specs.How.Overlay.{shown_numeral, list_text}
-use Rattle.output_laws.proofs.ByteLaws.{positions_byte, count_byte}
 use Rattle.output_laws.proofs.OverlayLaws.{shown-number, laid-append}
 use Rattle.output_laws.proofs.WriteLoopLaws.{list-line}
 use Rattle.file_output.proofs.put_file.Goals as goal
@@ -31,19 +29,13 @@ pieces set positions count =
 
 pub returns : goal.returns
 returns c =
-    ?
-
--- OLD at After-slice_known6: let rules = c.before.before in
---       let count = count_of rules in
---       let sizes = sizes_of count in
---       let key = key_of sizes in
---       let positions = positions_of key in
---       let start = start_of positions in
---       let set = start.args.set in
---       rw (pieces set (positions_byte set _ start.good.1.0) (count_byte set _ start.good.1.0))
---       (laid-append
---       (laid-append
---       (laid-append positions.put-number-line.ensures
---       (laid-append key.put_word.ensures sizes.put-numbers.ensures))
---       count.put-number-line2.ensures)
---       rules.put-rules.ensures)
+    let set = c.args.set in
+    let positions : set.positions ≤ 255 = omega arith in
+    let count : set.count ≤ 255 = omega arith in
+    rw (pieces set positions count)
+    (laid-append
+    (laid-append
+    (laid-append c.put_number_line-first.ensures
+    (laid-append c.put_word-second.ensures c.put_numbers-third.ensures))
+    c.put_number_line-fourth.ensures)
+    c.put_rules.ensures)

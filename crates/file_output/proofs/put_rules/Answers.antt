@@ -1,23 +1,18 @@
 -- `file_output::put_rules` meets its contract. The invariant: the lines of the rules from place k on remain.
 use mathlib.Core.Path.{◌≡◌, sym, ap, ◌∙◌}
-use mathlib.Core.List.{List, [], ◌++◌}
-use Prim.Native.Nat.{ℕ, ◌+◌, ◌-◌, ◌≤◌, ◌<◌, min}
+use mathlib.Core.List.{[], ◌++◌}
+use Prim.Native.Nat.{ℕ, ◌+◌, ◌≤◌, ◌<◌, min}
 use native.Mathlib.Omega.{arith}
 use lib.ListN.{length, get_or, take}
-use lib.Seq.{slice}
 use borrow.Author.Rules.{rules}
 use Rattle.theory_spec.specs.Lists.{flat}
 use Rattle.model_spec.specs.Rules.{no_rule}
 use Rattle.model_spec.specs.declared.RuleSet.{RuleSet}
-use Rattle.model_spec.proofs.Shapes.{rules_31}
 use Rattle.files_spec.specs.File.{rule_text}
-use Rattle.output_laws.proofs.OverlayLaws.{Remains, remains_all, remains-length, remains_none, remains-rest}
+use Rattle.output_laws.proofs.OverlayLaws.{remains_all, remains-length, remains_none, remains-rest}
 use Rattle.output_laws.proofs.WriteLoopLaws.{take-least, slice_more, slice_none}
+use Rattle.file_output.proofs.put_rules.Invariants.{lines_from}
 use Rattle.file_output.proofs.put_rules.Goals as goal
-
--- the lines of the rules from place k on, of so many
-abbrev lines_from : RuleSet → ℕ → ℕ → List ℕ
-lines_from set count k = flat (rule_text set.positions) (slice k count set.rules)
 
 module _ (set : RuleSet) (count : ℕ) (long : length set.rules ≡ 31) (shown : count ≡ min set.count 31) where
   -- at the start all remain
@@ -38,16 +33,16 @@ none_left set count k h = ap (flat (rule_text set.positions)) (slice_none set.ru
 
 pub loop-k-init : goal.loop-k-init
 loop-k-init c =
-    let set = c.args.t3 in
-    let whole = all_lines set c.rules_shown-count.result (rules_31 set _ c.type_inv.1.1.0)
+    let set = c.args.set in
+    let whole = all_lines set c.rules_shown-count.result (omega arith)
     c.rules_shown-count.ensures in
     (search rules, rw (sym whole) (remains_all _ _ _))
 
 pub loop-k-preserved : goal.loop-k-preserved
 loop-k-preserved c =
     let l = c.loop-k in
-    let set = c.args.t3 in
-    let long = rules_31 set _ c.type_inv.1.1.0 in
+    let set = c.args.set in
+    let long : length set.rules ≡ 31 = omega arith in
     let next = one_more set c.rules_shown-count.result long c.rules_shown-count.ensures l.k
     c.loop-k-test.true in
     (search rules, remains-rest l.invariant.1 _ _ next c.put_rule-next.ensures)
@@ -58,5 +53,5 @@ shape_of-text c = remains-length c.loop-k.invariant.1
 pub returns : goal.returns
 returns c =
     let l = c.loop-k in
-    remains_none l.invariant.1 (none_left c.args.t3 c.rules_shown-count.result l.k
+    remains_none l.invariant.1 (none_left c.args.set c.rules_shown-count.result l.k
     c.loop-k-test.false)

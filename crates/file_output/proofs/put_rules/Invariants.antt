@@ -1,19 +1,17 @@
 -- `file_output::put_rules` meets its contract. The invariant: the lines of the rules from place k on remain.
-use mathlib.Core.Path.{◌≡◌, sym, ap, ◌∙◌}
-use mathlib.Core.List.{List, [], ◌++◌}
-use Prim.Native.Nat.{ℕ, ◌+◌, ◌-◌, ◌≤◌, ◌<◌, min}
-use native.Mathlib.Omega.{arith}
-use lib.ListN.{length, get_or, take}
+use mathlib.Core.List.{List}
+use Prim.Native.Nat.{ℕ, ◌-◌, ◌≤◌}
+use lib.ListN.{take}
 use lib.Seq.{slice}
-use borrow.Author.Rules.{rules}
 use Rattle.theory_spec.specs.Lists.{flat}
-use Rattle.model_spec.specs.Rules.{no_rule}
 use Rattle.model_spec.specs.declared.RuleSet.{RuleSet}
-use Rattle.model_spec.proofs.Shapes.{rules_31}
 use Rattle.files_spec.specs.File.{rule_text}
-use Rattle.output_laws.proofs.OverlayLaws.{Remains, remains_all, remains-length, remains_none, remains-rest}
-use Rattle.output_laws.proofs.WriteLoopLaws.{take-least, slice_more, slice_none}
+use Rattle.output_laws.proofs.OverlayLaws.{Remains}
 use Rattle.file_output.proofs.put_rules.Given as goal
+
+-- the lines of the rules from place k on, of so many
+abbrev pub lines_from : RuleSet → ℕ → ℕ → List ℕ
+lines_from set count k = flat (rule_text set.positions) (slice k count set.rules)
 
 abbrev pub invariant-loop-k : goal.invariant-loop-k
 invariant-loop-k l =
