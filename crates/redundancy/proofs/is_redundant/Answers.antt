@@ -5,7 +5,6 @@ use Prim.Native.Nat.{ℕ}
 use native.Mathlib.Omega.{arith}
 use lib.Dec.{leb}
 use borrow.Author.Tests.{not-true, not-false}
-use borrow.Author.Rules.{rules}
 use Rattle.theory_spec.specs.Lists.{any, every, within}
 use Rattle.theory_spec.specs.Sequences.{Sequence, Numbered}
 use Rattle.model_spec.specs.Rules.{run_in, sequence_cost}

@@ -1,13 +1,10 @@
 -- `redundancy::leads` meets its contract. The invariant: whether the moves left lead from the entries to the effect
 -- decides the whole.
-use mathlib.Core.Path.{◌≡◌, refl, ◌∙◌}
-use Prim.Native.Nat.{◌≤◌, ◌-◌}
+use mathlib.Core.Path.{refl, ◌∙◌}
 use native.Mathlib.Omega.{arith}
-use lib.ListN.{length, get_or, drop}
 use borrow.Author.Rules.{rules}
-use Rattle.model_spec.specs.Rules.{rule_at, run_in}
+use Rattle.model_spec.specs.Rules.{rule_at}
 use Rattle.model_spec.proofs.LoopLaws.{failed, passed}
-use Rattle.macros_spec.specs.Redundancy.{ends_in}
 use Rattle.model_spec.proofs.MoveLaws.{numbered_at}
 use Rattle.macros_spec.proofs.MoveLoopLaws.{leads_go, leads_stop, leads-end}
 use Rattle.redundancy.proofs.leads.Goals as goal
@@ -31,7 +28,7 @@ pub returns-then-not-runs : goal.returns-then-not-runs
 unfolding rule_at
 returns-then-not-runs c =
     let s = c.args in
-    leads_stop s.t1 s.moves.now c.loop-i.i c.loop-i.entries s.t4 _ c.loop-i.invariant.1 _ refl
+    leads_stop s.set s.moves.now c.loop-i.i c.loop-i.entries s.effect _ c.loop-i.invariant.1 _ refl
     (omega arith) (failed c.runs.ensures c.if-not-runs.true-raw)
 
 pub loop-i-preserved : goal.loop-i-preserved
@@ -39,7 +36,7 @@ unfolding rule_at
 loop-i-preserved c =
     let s = c.args in (
       search rules,
-      leads_go s.t1 s.moves.now c.loop-i.i c.loop-i.entries s.t4 _ c.loop-i.invariant.1 _ refl
+      leads_go s.set s.moves.now c.loop-i.i c.loop-i.entries s.effect _ c.loop-i.invariant.1 _ refl
           (omega arith) (passed c.runs.ensures c.if-not-runs.false-raw) _ c.after-next.ensures,
     )
 
@@ -47,4 +44,4 @@ pub returns : goal.returns
 returns c =
     let s = c.args in
     c.same_entries.ensures
-    ∙ leads-end s.t1 s.moves.now c.loop-i.i c.loop-i.entries s.t4 _ c.loop-i.invariant.1 (omega arith)
+    ∙ leads-end s.set s.moves.now c.loop-i.i c.loop-i.entries s.effect _ c.loop-i.invariant.1 (omega arith)
