@@ -5,14 +5,12 @@ use Prim.Native.Nat.{ℕ, ◌≤◌, ◌<◌}
 use native.Mathlib.Omega.{arith}
 use lib.Dec.{ltb}
 use borrow.Author.Tests.{lt-ltb, le-ltb}
-use borrow.Author.Rules.{rules}
 use Rattle.theory_spec.specs.Sequences.{Sequence}
 use Rattle.model_spec.specs.declared.RuleSet.{RuleSet}
 use Rattle.macros_spec.specs.Composition.{lines_of}
 use Rattle.macros_spec.specs.Redundancy.{redundant_by_lines}
 use Rattle.tables_laws.specs.declared.Profile.{Profile}
 use Rattle.tables_laws.specs.How.ShortSequences.{short_sequence}
-use Rattle.tables_laws.proofs.Shapes.{rules_3}
 use Rattle.tables_laws.proofs.SequenceLoopLaws.{part_three}
 use Rattle.mark_check.proofs.witness_serves.Goals as goal
 
@@ -38,6 +36,6 @@ pub returns : goal.returns
 returns c =
     let s = c.args in
     let at = c.sequence_at-witness in
-    smaller s.set s.own_val s.index s.entry _ _ (omega (arith, c.if-index-entry.false))
-    (part_three at.result.start at.result.rules (rules_3 at.result _ at.type-inv) ∙ at.ensures.1)
+    smaller s.set s.own s.index s.entry _ _ (omega (arith, c.if-index-entry.false))
+    (part_three at.result.start at.result.rules (omega arith) ∙ at.ensures.1)
     c.is_redundant.ensures.0
