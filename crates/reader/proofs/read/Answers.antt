@@ -3,7 +3,6 @@
 use mathlib.Core.Path.{◌≡◌, sym, subst, ◌∙◌}
 use mathlib.Core.List.{List}
 use Prim.Native.Nat.{ℕ}
-use borrow.Author.Rules.{rules}
 use Rattle.files_spec.specs.Reading.{reading}
 use Rattle.files_spec.specs.Meaning.{ReadMeaning}
 use Rattle.files_spec.specs.declared.Reading.{Reading}
