@@ -1,8 +1,7 @@
 -- `sequence_output::put_sequence` meets its contract: no rule, one, or two with a comma between them. A rule's number
 -- is a byte, and so has at most three digits.
-use Prim.Native.Nat.{ℕ, ◌+◌, ◌-◌, ◌/◌, ◌%◌, ◌<◌}
+use Prim.Native.Nat.{◌+◌, ◌-◌, ◌/◌, ◌%◌, ◌<◌}
 use native.Mathlib.Omega.{arith}
-use borrow.Author.Rules.{rules}
 use Rattle.output_laws.proofs.OverlayLaws.{shown-number, laid_none, laid-append}
 use Rattle.report_laws.proofs.SequenceTextLaws.{text_none, text_one, rule-number, rule-before, text_two}
 use Rattle.sequence_output.proofs.put_sequence.Goals as goal
@@ -47,7 +46,7 @@ returns c =
     let e = c.some_rules-many.ensures in
     let before = (start.index - 1) / many - 1 in
     let last = start.index - 1 in
-    rw (text_two start.count many e start.index c.if-index-many.left)
+    rw (text_two start.count many e start.index c.if-index-many.false)
     (laid-append
     (rw (shown-number (before % many + 1) (omega (arith, rule-number start.count many e before)))
     at c.put_number-first.ensures)

@@ -1,6 +1,5 @@
 -- `sequence_output::put_sequence_line` meets its contract: the key, the rule numbers and the line feed, laid one after
 -- the other.
-use borrow.Author.Rules.{rules}
 use Rattle.output_laws.proofs.OverlayLaws.{laid-append}
 use Rattle.sequence_output.proofs.put_sequence_line.Goals as goal
 
