@@ -1,7 +1,6 @@
 -- `acceptance::check_for` meets its contract: each way out has the number of its cause.
 use mathlib.Core.Path.{sym, ◌∙◌}
 use lib.ListN.{length}
-use borrow.Author.Rules.{rules}
 use Rattle.model_spec.proofs.LoopLaws.{failed, passed}
 use Rattle.tables_spec.proofs.AnswerLaws.{shape_ready_iff, marks-refused, marks_decide}
 use Rattle.acceptance.proofs.check_for.Goals as goal

@@ -1,15 +1,8 @@
 -- `acceptance::is_accepted` meets its contract. The invariant: whether the entries left are justified decides it all.
-use mathlib.Core.Path.{◌≡◌, sym, ◌∙◌}
-use mathlib.Core.List.{List}
-use Prim.Native.Nat.{ℕ, ◌-◌, ◌<◌}
-use native.Mathlib.Omega.{arith}
-use borrow.Author.Rules.{rules}
+use mathlib.Core.Path.{◌≡◌}
+use Prim.Native.Nat.{◌-◌}
 use Rattle.theory_spec.specs.Lists.{every, numbers_from}
-use Rattle.model_spec.specs.declared.RuleSet.{RuleSet}
-use Rattle.model_spec.proofs.LoopLaws.{every_go, every_stop, every-end, failed, passed}
 use Rattle.tables_spec.specs.Table.{table_entries, entry_justified, accepted}
-use Rattle.tables_spec.proofs.ReachLaws.{near_entries, near-justified}
-use Rattle.tables_spec.proofs.TableLaws.{accepted_entries}
 use Rattle.acceptance.proofs.is_accepted.Given as goal
 
 abbrev pub invariant-loop-i : goal.invariant-loop-i

@@ -1,7 +1,6 @@
 -- `acceptance::justified` meets its contract: by what was found of the entry at each way out.
 use mathlib.Core.Path.{sym, ◌∙◌}
 use native.Mathlib.Omega.{arith}
-use borrow.Author.Rules.{rules}
 use Rattle.tables_laws.proofs.MarkLaws.{mark_tested, kept-justified}
 use Rattle.acceptance.proofs.justified.Goals as goal
 
