@@ -1,5 +1,4 @@
 -- `blanks::empty_set` meets its contract.
-use borrow.Author.Rules.{rules}
 use Rattle.blanks.proofs.empty_set.Goals as goal
 
 pub returns : goal.returns

@@ -1,11 +1,8 @@
 -- `buffers::fill_from` meets its contract. The invariant: the byte from i on makes of the buffer what it makes from the
 -- first place on of the buffer as it was.
-use mathlib.Core.Path.{◌≡◌, refl, sym, ◌∙◌}
-use Prim.Native.Nat.{◌-◌}
+use mathlib.Core.Path.{refl, sym, ◌∙◌}
 use native.Mathlib.Omega.{arith}
-use lib.ListN.{length, length-set}
-use borrow.Author.Rules.{rules}
-use Rattle.model_spec.specs.How.Buffers.{filled_from}
+use lib.ListN.{length-set}
 use Rattle.model_spec.proofs.BufferLaws.{filled_more, filled_past}
 use Rattle.buffers.proofs.fill_from.Goals as goal
 

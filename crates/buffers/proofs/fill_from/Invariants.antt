@@ -1,12 +1,9 @@
 -- `buffers::fill_from` meets its contract. The invariant: the byte from i on makes of the buffer what it makes from the
 -- first place on of the buffer as it was.
-use mathlib.Core.Path.{◌≡◌, refl, sym, ◌∙◌}
+use mathlib.Core.Path.{◌≡◌}
 use Prim.Native.Nat.{◌-◌}
-use native.Mathlib.Omega.{arith}
-use lib.ListN.{length, length-set}
-use borrow.Author.Rules.{rules}
+use lib.ListN.{length}
 use Rattle.model_spec.specs.How.Buffers.{filled_from}
-use Rattle.model_spec.proofs.BufferLaws.{filled_more, filled_past}
 use Rattle.buffers.proofs.fill_from.Given as goal
 
 abbrev pub invariant-loop-i : goal.invariant-loop-i

@@ -1,6 +1,5 @@
 -- `packing::pack` meets its contract: the fields fit, so nothing overflows.
 use native.Mathlib.Omega.{arith}
-use borrow.Author.Rules.{rules}
 use Rattle.planner_spec.specs.Packed.{packed}
 use Rattle.packing.proofs.pack.Goals as goal
 

@@ -1,6 +1,5 @@
 -- `packing::pack_table` meets its contract: the parts fit, so nothing overflows.
 use native.Mathlib.Omega.{arith}
-use borrow.Author.Rules.{rules}
 use Rattle.planner_spec.specs.PackedTable.{packed_table}
 use Rattle.packing.proofs.pack_table.Goals as goal
 

@@ -4,7 +4,6 @@ use mathlib.Core.Bool.{false, and-false}
 use mathlib.Core.List.{List}
 use Prim.Native.Nat.{ℕ, ◌-◌, ◌≤◌, ◌<◌}
 use borrow.Author.Tests.{lt-ltb, le-ltb, lt-leb, le-leb}
-use borrow.Author.Rules.{rules}
 use Rattle.model_spec.specs.Validity.{condition_placed, effect_placed}
 use Rattle.placement.proofs.condition_placed.Goals as goal
 

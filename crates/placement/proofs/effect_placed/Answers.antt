@@ -8,7 +8,6 @@ use native.Mathlib.Omega.{arith}
 use lib.Dec.{eqb}
 use lib.ListN.{get_or}
 use borrow.Author.Tests.{lt-ltb, le-ltb, eq-eqb, ne_eqb}
-use borrow.Author.Rules.{rules}
 use Rattle.model_spec.specs.States.{width}
 use Rattle.model_spec.specs.Validity.{effect_placed}
 use Rattle.placement.proofs.effect_placed.Goals as goal

@@ -1,6 +1,5 @@
 -- `placement::entry_limited` meets its contract.
 use borrow.Author.Tests.{lt-ltb, le-ltb}
-use borrow.Author.Rules.{rules}
 use Rattle.model_spec.specs.Validity.{entry_limited}
 use Rattle.placement.proofs.entry_limited.Goals as goal
 

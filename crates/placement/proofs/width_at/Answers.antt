@@ -1,6 +1,5 @@
 -- `placement::width_at` meets its contract.
 use borrow.Author.Tests.{lt-ltb, le-ltb}
-use borrow.Author.Rules.{rules}
 use Rattle.model_spec.specs.States.{width}
 use Rattle.placement.proofs.width_at.Goals as goal
 

@@ -1,11 +1,10 @@
 -- `refused_search::refused_search` meets its contract: the buffer is filled from its start on.
-use mathlib.Core.Path.{◌≡◌, sym, ap, ◌∙◌}
+use mathlib.Core.Path.{◌≡◌, sym, ◌∙◌}
 use mathlib.Core.List.{List}
 use Prim.Native.Nat.{ℕ}
 use lib.ListN.{length, replicate}
-use borrow.Author.Rules.{rules}
 use Rattle.model_spec.proofs.BufferLaws.{filled-whole}
-use Rattle.search_spec.specs.Searched.{no_move, Searched, refused_search}
+use Rattle.search_spec.specs.Searched.{no_move, refused_search}
 use Rattle.refused_search.proofs.refused_search.Goals as goal
 
 blank : (outcome room : ℕ) (plan : List ℕ) → plan ≡ replicate room no_move

@@ -1,6 +1,5 @@
 -- `separators::ending` meets its contract: a line feed, or a comma where items follow.
 use mathlib.Core.Path.{sym}
-use borrow.Author.Rules.{rules}
 use Rattle.files_spec.proofs.TextLaws.{comma_follows}
 use Rattle.separators.proofs.ending.Goals as goal
 

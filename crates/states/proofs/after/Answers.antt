@@ -1,11 +1,10 @@
 -- `states::after` meets its contract. The invariant: the first i places hold the values of their entries, the others
 -- still the entries.
-use mathlib.Core.Path.{◌≡◌, sym, ◌∙◌}
-use Prim.Native.Nat.{◌≤◌, ◌-◌}
+use mathlib.Core.Path.{sym, ◌∙◌}
 use native.Mathlib.Omega.{arith}
 use borrow.Author.Rules.{rules}
-use Rattle.model_spec.specs.States.{value_of, values_of, successor}
-use Rattle.model_spec.proofs.LoopLaws.{front, front_none, front_more, front_all}
+use Rattle.model_spec.specs.States.{values_of, successor}
+use Rattle.model_spec.proofs.LoopLaws.{front_none, front_more, front_all}
 use Rattle.states.proofs.after.Goals as goal
 
 pub loop-i-init : goal.loop-i-init

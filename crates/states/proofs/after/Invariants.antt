@@ -1,11 +1,9 @@
 -- `states::after` meets its contract. The invariant: the first i places hold the values of their entries, the others
 -- still the entries.
-use mathlib.Core.Path.{◌≡◌, sym, ◌∙◌}
+use mathlib.Core.Path.{◌≡◌}
 use Prim.Native.Nat.{◌≤◌, ◌-◌}
-use native.Mathlib.Omega.{arith}
-use borrow.Author.Rules.{rules}
-use Rattle.model_spec.specs.States.{value_of, values_of, successor}
-use Rattle.model_spec.proofs.LoopLaws.{front, front_none, front_more, front_all}
+use Rattle.model_spec.specs.States.{value_of}
+use Rattle.model_spec.proofs.LoopLaws.{front}
 use Rattle.states.proofs.after.Given as goal
 
 abbrev pub invariant-loop-i : goal.invariant-loop-i

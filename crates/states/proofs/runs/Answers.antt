@@ -1,12 +1,8 @@
 -- `states::runs` meets its contract. The invariant: what is left of the condition and the state from place i on decides
 -- the whole.
-use mathlib.Core.Path.{◌≡◌, refl, sym, ◌∙◌}
-use Prim.Native.Nat.{◌≤◌, ◌-◌}
+use mathlib.Core.Path.{refl, sym, ◌∙◌}
 use native.Mathlib.Omega.{arith}
-use mathlib.Core.List.{map}
-use lib.ListN.{drop}
 use borrow.Author.Rules.{rules}
-use Rattle.theory_spec.specs.Lists.{same}
 use Rattle.model_spec.specs.States.{value_of, values_of, applicable}
 use Rattle.model_spec.proofs.LoopLaws.{same_go, same_stop, same_end}
 use Rattle.states.proofs.runs.Goals as goal

@@ -1,10 +1,7 @@
 -- `states::same_entries` meets its contract. The invariant: what is left of the two lists from place i on decides the
 -- whole.
-use mathlib.Core.Path.{◌≡◌, ap}
-use Prim.Native.Nat.{◌≤◌, ◌-◌}
+use mathlib.Core.Path.{ap}
 use native.Mathlib.Omega.{arith}
-use mathlib.Core.List.{map}
-use lib.ListN.{drop}
 use borrow.Author.Rules.{rules}
 use Rattle.theory_spec.specs.Lists.{same}
 use Rattle.theory_spec.proofs.ListLaws.{map_id}

@@ -1,14 +1,10 @@
 -- `states::same_entries` meets its contract. The invariant: what is left of the two lists from place i on decides the
 -- whole.
-use mathlib.Core.Path.{◌≡◌, ap}
+use mathlib.Core.Path.{◌≡◌}
 use Prim.Native.Nat.{◌≤◌, ◌-◌}
-use native.Mathlib.Omega.{arith}
 use mathlib.Core.List.{map}
 use lib.ListN.{drop}
-use borrow.Author.Rules.{rules}
 use Rattle.theory_spec.specs.Lists.{same}
-use Rattle.theory_spec.proofs.ListLaws.{map_id}
-use Rattle.model_spec.proofs.LoopLaws.{same_go, same_stop, same_end}
 use Rattle.states.proofs.same_entries.Given as goal
 
 abbrev pub invariant-loop-i : goal.invariant-loop-i

@@ -1,6 +1,5 @@
 -- `states::value` meets its contract: by cases on whether the entry is a constant.
 use borrow.Author.Tests.{lt-ltb, le-ltb}
-use borrow.Author.Rules.{rules}
 use Rattle.model_spec.specs.States.{value_of}
 use Rattle.states.proofs.value.Goals as goal
 
