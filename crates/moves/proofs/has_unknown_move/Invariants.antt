@@ -7,7 +7,9 @@ use Rattle.theory_spec.specs.Lists.{any, within}
 use Rattle.moves.proofs.has_unknown_move.Given as goal
 
 abbrev pub invariant-loop-i : goal.invariant-loop-i
-invariant-loop-i l = (l.i ≤ length l.moves) × (any (λ n. not (within 1 l.count n)) (drop l.i l.moves) ≡ any (λ n. not (within 1 l.count n)) l.moves)
+invariant-loop-i l =
+    (l.i ≤ length l.moves)
+    × (any (λ n. not (within 1 l.count n)) (drop l.i l.moves) ≡ any (λ n. not (within 1 l.count n)) l.moves)
 
 abbrev pub decreases-loop-i : goal.decreases-loop-i
 decreases-loop-i l = length l.moves - l.i

@@ -45,8 +45,8 @@ returns-then-i-lt-PLACE_COUNT c =
     let s = c.args in
     unlettered (min s.positions 16) s.sizes.now s.i s.ending s.text.now s.at
     (elim c.if-at-text.branch [
-      then-at-text+else-text-at-eq120 w ↦ w.if-text-at-eq120.false |
-      else-at-text w ↦ outside s.text.now s.at w.if-at-text.false
+      | then-at-text+else-text-at-eq120 w ↦ w.if-text-at-eq120.false
+      | else-at-text w ↦ outside s.text.now s.at w.if-at-text.false
     ])
     ∙ c.constant.ensures
 
@@ -55,7 +55,7 @@ returns c =
     let s = c.args in
     unlettered (min s.positions 16) s.sizes.now s.i s.ending s.text.now s.at
     (elim c.if-at-text.branch [
-      then-at-text+else-text-at-eq120 w ↦ w.if-text-at-eq120.false |
-      else-at-text w ↦ outside s.text.now s.at w.if-at-text.false
+      | then-at-text+else-text-at-eq120 w ↦ w.if-text-at-eq120.false
+      | else-at-text w ↦ outside s.text.now s.at w.if-at-text.false
     ])
     ∙ rw (get_or-eq_default s.sizes.now 0 {n = s.i} (omega arith)) c.constant-2.ensures
