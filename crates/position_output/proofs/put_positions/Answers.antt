@@ -1,14 +1,12 @@
 -- `position_output::put_positions` meets its contract. The invariant: the members before place k stand at the array's
 -- front.
-use mathlib.Core.Path.{◌≡◌, refl, ◌∙◌}
-use mathlib.Core.Logic.{⊎_elim}
-use Prim.Native.Nat.{◌-◌, ◌≤◌}
+use mathlib.Core.Path.{refl, ◌∙◌}
 use native.Mathlib.Omega.{arith}
-use lib.ListN.{length, length-set}
-use borrow.Author.Rules.{rules}
+use lib.ListN.{length-set}
 use Rattle.output_laws.proofs.OverlayLaws.{laid-append}
-use Rattle.report_laws.proofs.PositionLoopLaws.{Written, position-written, position-passed, positions-line}
+use Rattle.report_laws.proofs.PositionLoopLaws.{position-written, position-passed, positions-line}
 use Rattle.position_output.proofs.put_positions.Goals as goal
+use Rattle.position_output.proofs.put_positions.Goals.{then-members-k-eq1, else-members-k-eq1}
 
 pub loop-k-init : goal.loop-k-init
 loop-k-init c = (refl, omega arith, omega arith, refl)
@@ -18,19 +16,22 @@ loop-k-preserved c =
     let l = c.loop-k in
     let members = c.args.members in
     let h = c.loop-k-test.true in
-    ⊎_elim (λ w. (
-      rw w.1 (length-set l.positions l.count _ ∙ l.invariant.0),
-      omega (arith, w.2),
-      omega arith,
-      rw (w.1, w.2) (position-written members l.k l.count _ l.invariant.3 h w.0.taken (omega arith)),
-    ))
-    (λ w. (
-      rw w.1 l.invariant.0,
-      omega (arith, w.2),
-      omega arith,
-      rw (w.1, w.2) (position-passed members l.k l.count _ l.invariant.3 h w.0.left),
-    ))
-    c.if-members-k-eq1.branch
+    elim c.if-members-k-eq1.branch [
+      | then-members-k-eq1 w ↦ (
+        rw w.positions-is (length-set l.positions l.count _ ∙ l.invariant.0),
+        omega (arith, w.count-is),
+        omega arith,
+        rw (w.positions-is, w.count-is)
+            (position-written members l.k l.count _ l.invariant.3 h w.if-members-k-eq1.true (omega arith)),
+      )
+      | else-members-k-eq1 w ↦ (
+        rw w.positions-is l.invariant.0,
+        omega (arith, w.count-is),
+        omega arith,
+        rw (w.positions-is, w.count-is)
+            (position-passed members l.k l.count _ l.invariant.3 h w.if-members-k-eq1.false),
+      )
+    ]
 
 pub returns : goal.returns
 returns c =
