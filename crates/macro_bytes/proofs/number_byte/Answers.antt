@@ -2,7 +2,6 @@
 use mathlib.Core.Path.{sym, ap}
 use native.Mathlib.Omega.{arith}
 use lib.ListN.{get_or, get_or-eq_default}
-use borrow.Author.Rules.{rules}
 use Rattle.tables_spec.specs.Table.{entry_bytes}
 use Rattle.macro_bytes.proofs.number_byte.Goals as goal
 
