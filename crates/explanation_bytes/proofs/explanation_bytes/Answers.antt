@@ -4,11 +4,9 @@ use mathlib.Core.List.{List, [], ◌∷◌, ◌++◌}
 use Prim.Native.Nat.{ℕ}
 use native.Mathlib.Omega.{arith}
 use lib.ListN.{length, get_or}
-use borrow.Author.Rules.{rules}
 use Rattle.tables_spec.specs.Table.{entry_bytes}
 use Rattle.explain_spec.specs.declared.Explanation.{Explanation}
 use Rattle.planner_spec.specs.TextExplain.{explanation_bytes, number_bytes}
-use Rattle.planner_spec.proofs.ExplanationShape.{witness-places}
 use Rattle.explanation_bytes.proofs.explanation_bytes.Goals as goal
 
 -- three places, one by one
@@ -25,8 +23,8 @@ laid answer end witness =
     (answer.reason ∷ answer.place ∷ [])
     ++ (entry_bytes answer.cost
     ++ (entry_bytes answer.plan_cost
-    ++ ((get_or end 0 0 ∷ get_or end 1 0 ∷ get_or end 2 0 ∷ get_or end 3 0 ∷ get_or end 4 0 ∷ get_or end 5 0 ∷ get_or end 6 0
-    ∷ get_or end 7 0 ∷ [])
+    ++ ((get_or end 0 0 ∷ get_or end 1 0 ∷ get_or end 2 0 ∷ get_or end 3 0 ∷ get_or end 4 0 ∷ get_or end 5 0
+    ∷ get_or end 6 0 ∷ get_or end 7 0 ∷ [])
     ++ ((answer.segment_length ∷ answer.witness_length ∷ []) ++ witness))))
 
 whole : (answer : Explanation) (end : List ℕ) → length answer.witness ≡ 3
@@ -38,5 +36,5 @@ whole answer end size e = ap₂ (laid answer) e (three answer.witness size)
 
 pub returns : goal.returns
 returns c =
-    whole c.args.answer c.eight_bytes-end.result (witness-places c.args.answer _ c.type_inv.0)
+    whole c.args.answer c.eight_bytes-end.result (omega arith)
     c.eight_bytes-end.ensures
