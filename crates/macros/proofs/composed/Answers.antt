@@ -1,10 +1,8 @@
 -- `macros::composed` meets its contract. The invariant: the vectors so far are those of the first i moves.
-use mathlib.Core.Path.{◌≡◌, ◌∙◌}
-use Prim.Native.Nat.{◌≤◌, ◌-◌}
+use mathlib.Core.Path.{◌∙◌}
 use native.Mathlib.Omega.{arith}
-use lib.ListN.{length, take}
 use borrow.Author.Rules.{rules}
-use Rattle.macros_spec.specs.Composition.{empty_lines, composed, composed_from, as_vectors}
+use Rattle.macros_spec.specs.Composition.{empty_lines, composed, composed_from}
 use Rattle.macros_spec.proofs.CompositionLoopLaws.{compose_go, compose-end}
 use Rattle.model_spec.proofs.MoveLaws.{numbered_at, rule_among}
 use Rattle.macros.proofs.composed.Goals as goal

@@ -1,9 +1,7 @@
 -- `macros::macro_of` meets its contract: either way out has the definition's answer, which has its meaning.
 use mathlib.Core.Path.{◌≡◌, sym, subst, ◌∙◌}
-use borrow.Author.Rules.{rules}
 use Rattle.theory_spec.specs.Sequences.{Sequence}
 use Rattle.model_spec.specs.declared.RuleSet.{RuleSet}
-use Rattle.model_spec.proofs.LoopLaws.{failed, passed}
 use Rattle.model_spec.proofs.ValidityLaws.{valid_iff}
 use Rattle.macros_spec.specs.Answers.{macro_answer, Meaning}
 use Rattle.macros_spec.specs.declared.MacroAnswer.{MacroAnswer}
@@ -20,16 +18,16 @@ pub returns-then-not-is_valid : goal.returns-then-not-is_valid
 returns-then-not-is_valid c =
     let s = c.args in
     answers s.set s.moves.now c.refused.result
-    (answer_invalid s.set s.moves.now (failed c.is_valid.ensures.0 c.if-not-is_valid.true-raw)
+    (answer_invalid s.set s.moves.now (sym c.is_valid.ensures.0 ∙ c.if-not-is_valid.true)
     ∙ sym c.refused.ensures)
 
 pub macro_for-requires : goal.macro_for-requires
 macro_for-requires c =
     let s = c.args in
-    ((valid_iff s.set).0 (passed c.is_valid.ensures.0 c.if-not-is_valid.false-raw)).formed
+    ((valid_iff s.set).0 (sym c.is_valid.ensures.0 ∙ c.if-not-is_valid.false)).formed
 
 pub returns : goal.returns
 returns c =
     let s = c.args in
     answers s.set s.moves.now _ (answer-judged s.set s.moves.now
-    (passed c.is_valid.ensures.0 c.if-not-is_valid.false-raw) ∙ sym c.macro_for.ensures)
+    (sym c.is_valid.ensures.0 ∙ c.if-not-is_valid.false) ∙ sym c.macro_for.ensures)
