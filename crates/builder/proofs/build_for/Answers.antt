@@ -2,7 +2,6 @@
 use mathlib.Core.Path.{sym, ◌∙◌}
 use mathlib.Core.Logic.{◌≢◌}
 use lib.ListN.{length}
-use borrow.Author.Rules.{rules}
 use Rattle.model_spec.specs.Refusals.{first_refusal}
 use Rattle.model_spec.proofs.BufferLaws.{filled-whole}
 use Rattle.tables_spec.specs.Table.{built_table}

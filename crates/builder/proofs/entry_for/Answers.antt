@@ -6,7 +6,6 @@ use Prim.Native.Nat.{ℕ, ◌≤◌, ◌<◌}
 use native.Mathlib.Omega.{arith}
 use lib.Dec.{eqb}
 use borrow.Author.Tests.{eq-eqb, ne_eqb}
-use borrow.Author.Rules.{rules}
 use Rattle.theory_spec.specs.Sequences.{sequences}
 use Rattle.model_spec.specs.Rules.{sequence_cost}
 use Rattle.model_spec.specs.Validity.{WellFormed}

@@ -1,12 +1,11 @@
 -- `builder::write_entries` meets its contract. The invariant: the entries so far, with those still to come, are the
 -- built table, and the sets are what the marks so far touch.
 use mathlib.Core.Path.{◌≡◌, refl, sym, ap, ◌∙◌}
-use mathlib.Core.Bool.{Bool, not, cond}
-use Prim.Native.Nat.{ℕ, ◌+◌, ◌-◌, ◌≤◌, ◌<◌}
+use mathlib.Core.Bool.{not, cond}
+use Prim.Native.Nat.{ℕ, ◌+◌, ◌<◌}
 use native.Mathlib.Omega.{arith}
 use lib.Dec.{eqb}
-use lib.ListN.{length, length-set}
-use borrow.Author.Rules.{rules}
+use lib.ListN.{length-set}
 use Rattle.model_spec.specs.declared.RuleSet.{RuleSet}
 use Rattle.macros_spec.specs.Answers.{touched_in}
 use Rattle.macros_spec.specs.declared.Touched.{Touched}
@@ -14,17 +13,14 @@ use Rattle.tables_spec.specs.Table.{table_entries, sequence_at, kept, built_entr
 use Rattle.tables_spec.proofs.ReachLaws.{near_entries, near-built}
 use Rattle.tables_spec.proofs.TableLaws.{built-entry}
 use Rattle.tables_laws.proofs.MarkLaws.{own_touched}
-use Rattle.tables_laws.proofs.TableLoopLaws.{entered, entered-start, entered_more, entered_all}
+use Rattle.tables_laws.proofs.TableLoopLaws.{entered-start, entered_more, entered_all}
 use Rattle.unions_spec.specs.Unions.{table_touched}
 use Rattle.unions_spec.specs.How.United.{united, united_to}
 use Rattle.unions_spec.proofs.UnionLaws.{united_next, united_all}
+use Rattle.builder.proofs.write_entries.Invariants.{marks}
 use Rattle.builder.proofs.write_entries.Goals as goal
 
 -- ── The unions ───────────────────────────────────────────────────────────────────────────────────
-
--- the builder marks the sequence of an index
-abbrev marks : RuleSet → ℕ → ℕ → Bool
-marks set reach k = not (eqb (built_entry set reach k) kept)
 
 -- with one entry more
 next : (set : RuleSet) (reach i entry : ℕ) (before own after : Touched)

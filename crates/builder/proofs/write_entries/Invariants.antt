@@ -1,24 +1,19 @@
 -- `builder::write_entries` meets its contract. The invariant: the entries so far, with those still to come, are the
 -- built table, and the sets are what the marks so far touch.
-use mathlib.Core.Path.{◌≡◌, refl, sym, ap, ◌∙◌}
-use mathlib.Core.Bool.{Bool, not, cond}
-use Prim.Native.Nat.{ℕ, ◌+◌, ◌-◌, ◌≤◌, ◌<◌}
-use native.Mathlib.Omega.{arith}
+use mathlib.Core.Path.{◌≡◌}
+use mathlib.Core.Bool.{Bool, not}
+use Prim.Native.Nat.{ℕ, ◌-◌, ◌≤◌}
 use lib.Dec.{eqb}
-use lib.ListN.{length, length-set}
-use borrow.Author.Rules.{rules}
+use lib.ListN.{length}
 use Rattle.model_spec.specs.declared.RuleSet.{RuleSet}
-use Rattle.macros_spec.specs.Answers.{touched_in}
-use Rattle.macros_spec.specs.declared.Touched.{Touched}
-use Rattle.tables_spec.specs.Table.{table_entries, sequence_at, kept, built_entry, built_table}
-use Rattle.tables_spec.proofs.ReachLaws.{near_entries, near-built}
-use Rattle.tables_spec.proofs.TableLaws.{built-entry}
-use Rattle.tables_laws.proofs.MarkLaws.{own_touched}
-use Rattle.tables_laws.proofs.TableLoopLaws.{entered, entered-start, entered_more, entered_all}
-use Rattle.unions_spec.specs.Unions.{table_touched}
-use Rattle.unions_spec.specs.How.United.{united, united_to}
-use Rattle.unions_spec.proofs.UnionLaws.{united_next, united_all}
+use Rattle.tables_spec.specs.Table.{table_entries, kept, built_entry, built_table}
+use Rattle.tables_laws.proofs.TableLoopLaws.{entered}
+use Rattle.unions_spec.specs.How.United.{united_to}
 use Rattle.builder.proofs.write_entries.Given as goal
+
+-- the builder marks the sequence of an index
+abbrev pub marks : RuleSet → ℕ → ℕ → Bool
+marks set reach k = not (eqb (built_entry set reach k) kept)
 
 abbrev pub invariant-loop-i : goal.invariant-loop-i
 invariant-loop-i l =
