@@ -4,7 +4,6 @@ use mathlib.Core.Bool.{true}
 use mathlib.Core.List.{List}
 use Prim.Native.Nat.{ℕ}
 use native.Mathlib.Omega.{arith}
-use borrow.Author.Rules.{rules}
 use Rattle.theory_spec.proofs.ListLaws.{not-both}
 use Rattle.model_spec.specs.Refusals.{first_refusal}
 use Rattle.model_spec.specs.Validity.{valid, Valid}
