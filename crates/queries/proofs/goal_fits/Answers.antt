@@ -1,23 +1,18 @@
 -- `queries::goal_fits` meets its contract. The invariant: the tests of the positions from i on decide the whole.
 use mathlib.Core.Path.{◌≡◌}
-use mathlib.Core.Logic.{⊎_elim}
-use mathlib.Core.Bool.{Bool, true, ◌&&◌, ◌||◌}
-use mathlib.Core.List.{List}
-use Prim.Native.Nat.{ℕ, ◌≤◌, ◌-◌}
+use mathlib.Core.Bool.{true}
+use Prim.Native.Nat.{◌-◌}
 use native.Mathlib.Omega.{arith}
 use lib.Dec.{ltb, eqb}
-use lib.ListN.{length, get_or}
+use lib.ListN.{get_or}
 use borrow.Author.Tests.{eq-eqb, ne_eqb, lt-ltb, le-ltb}
 use borrow.Author.Rules.{rules}
-use Rattle.theory_spec.specs.Lists.{every, numbers_from}
 use Rattle.theory_spec.proofs.ListLaws.{or_left, or_right}
 use Rattle.model_spec.proofs.LoopLaws.{every_go, every_stop, every-end, sized}
 use Rattle.search_spec.specs.Query.{any_value, goal_fits}
 use Rattle.queries.proofs.goal_fits.Goals as goal
-
--- the test of position i
-abbrev test : List ℕ → List ℕ → ℕ → Bool
-test sizes goal i = eqb (get_or goal i 0) any_value || ltb (get_or goal i 0) (get_or sizes i 0)
+use Rattle.queries.proofs.goal_fits.Goals.{then-goal-i+else-sizes-i, else-goal-i}
+use Rattle.queries.proofs.goal_fits.Invariants.{test}
 
 pub returns-then-goal-positions : goal.returns-then-goal-positions
 unfolding goal_fits
@@ -43,8 +38,10 @@ loop-i-preserved c =
     let l = c.loop-i in
     let byte = get_or s.goal.now l.i 0 in
     let size = get_or s.set.sizes l.i 0 in
-    let passed : test s.set.sizes s.goal.now l.i ≡ true = ⊎_elim (λ w. or_right (eqb byte any_value) (lt-ltb byte size w.2.left))
-    (λ w. or_left (ltb byte size) (eq-eqb byte any_value w.left)) c.if-goal-i.branch in (
+    let passed : test s.set.sizes s.goal.now l.i ≡ true = elim c.if-goal-i.branch [
+      | then-goal-i+else-sizes-i w ↦ or_right (eqb byte any_value) (lt-ltb byte size w.if-sizes-i.false)
+      | else-goal-i w ↦ or_left (ltb byte size) (eq-eqb byte any_value w.if-goal-i.false)
+    ] in (
       search rules,
       every_go (test s.set.sizes s.goal.now) l.i s.set.positions _ l.invariant.1
           (omega arith) passed,

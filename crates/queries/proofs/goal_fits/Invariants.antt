@@ -1,19 +1,17 @@
 -- `queries::goal_fits` meets its contract. The invariant: the tests of the positions from i on decide the whole.
 use mathlib.Core.Path.{◌≡◌}
-use mathlib.Core.Logic.{⊎_elim}
-use mathlib.Core.Bool.{Bool, true, ◌&&◌, ◌||◌}
+use mathlib.Core.Bool.{Bool, ◌&&◌, ◌||◌}
 use mathlib.Core.List.{List}
 use Prim.Native.Nat.{ℕ, ◌≤◌, ◌-◌}
-use native.Mathlib.Omega.{arith}
 use lib.Dec.{ltb, eqb}
 use lib.ListN.{length, get_or}
-use borrow.Author.Tests.{eq-eqb, ne_eqb, lt-ltb, le-ltb}
-use borrow.Author.Rules.{rules}
 use Rattle.theory_spec.specs.Lists.{every, numbers_from}
-use Rattle.theory_spec.proofs.ListLaws.{or_left, or_right}
-use Rattle.model_spec.proofs.LoopLaws.{every_go, every_stop, every-end, sized}
-use Rattle.search_spec.specs.Query.{any_value, goal_fits}
+use Rattle.search_spec.specs.Query.{any_value}
 use Rattle.queries.proofs.goal_fits.Given as goal
+
+-- the test of position i
+abbrev pub test : List ℕ → List ℕ → ℕ → Bool
+test sizes goal i = eqb (get_or goal i 0) any_value || ltb (get_or goal i 0) (get_or sizes i 0)
 
 abbrev pub invariant-loop-i : goal.invariant-loop-i
 invariant-loop-i l =

@@ -3,15 +3,14 @@ use mathlib.Core.Path.{◌≡◌}
 use mathlib.Core.Bool.{Bool, ◌&&◌}
 use mathlib.Core.List.{List}
 use Prim.Native.Nat.{ℕ, ◌≤◌, ◌-◌}
-use native.Mathlib.Omega.{arith}
 use lib.Dec.{ltb, eqb}
 use lib.ListN.{length, get_or}
-use borrow.Author.Tests.{ne_eqb, lt-ltb, le-ltb}
-use borrow.Author.Rules.{rules}
 use Rattle.theory_spec.specs.Lists.{every, numbers_from}
-use Rattle.model_spec.proofs.LoopLaws.{every_go, every_stop, every-end, sized}
-use Rattle.search_spec.specs.Query.{start_fits}
 use Rattle.queries.proofs.start_fits.Given as goal
+
+-- the test of position i
+abbrev pub test : List ℕ → List ℕ → ℕ → Bool
+test sizes start i = ltb (get_or start i 0) (get_or sizes i 0)
 
 abbrev pub invariant-loop-i : goal.invariant-loop-i
 invariant-loop-i l =
