@@ -1,13 +1,11 @@
 -- `visits::visit_from` meets its contract, by a measure: each call of itself has one move less to come.
 -- The invariant: what the rules from place k on make of the progress is what all rules make of the progress that the
 -- sequence itself leaves; and the longer plan lacks only its last move.
-use mathlib.Core.Path.{◌≡◌, refl, sym, ◌∙◌}
-use Prim.Native.Nat.{ℕ, ◌+◌, ◌*◌, ◌-◌, ◌≤◌, ◌<◌}
+use mathlib.Core.Path.{refl, sym, ◌∙◌}
+use Prim.Native.Nat.{◌+◌}
 use native.Mathlib.Omega.{arith}
 use lib.ListN.{take}
 use lib.Seq.{set-set}
-use Rattle.theory_spec.specs.How.Indices.{index_of}
-use Rattle.theory_spec.specs.How.Recursion.{last}
 use Rattle.tables_spec.proofs.CountLaws.{count_bound}
 use Rattle.search_spec.specs.Searched.{no_move}
 use Rattle.search_laws.proofs.LookupLaws.{place-fits}
@@ -76,7 +74,7 @@ loop-k-preserved t c =
     let first = place-fits _ _ (take s.depth s.plan.now) _ lent.reach_limits.0 lent.reach_limits.1 reached.rules
     c.first_place-first.ensures in
     elim c.if-goes_on.branch [
-      then-goes_on w ↦ (
+      | then-goes_on w ↦ (
         omega (arith, c.loop-k-test.true),
         turn_taken _ _ _ _ _ _ _ _ _ first.0 reached.total lent.reach_limits.0 _ _ _ _ _ c.loop-k-test.true
             l.invariant.1 lent reached.state_end _ c.goes_on.ensures w.if-goes_on.true _
@@ -84,7 +82,7 @@ loop-k-preserved t c =
             w.carried-is w.visit_from-carried.ensures,
         λ number. rw w.longer-is (set-set l.longer s.depth (l.k + 1) number ∙ l.invariant.2 number),
       )
-    | else-goes_on w ↦ (
+      | else-goes_on w ↦ (
         omega (arith, c.loop-k-test.true),
         rw w.carried-is (turn_left _ _ _ _ _ _ _ _ _ first.0 reached.total lent.reach_limits.0 _ _ _ _ _
             c.loop-k-test.true l.invariant.1 lent reached.state_end _ c.goes_on.ensures w.if-goes_on.false),
