@@ -1,4 +1,4 @@
-/* The planner's C entries, in the static library libplanner.a (rt staticlib planner).
+/* The planner's C entries, in the static library libplanner.a (examples/library).
  *
  * Every byte argument is a pointer and then its length in bytes. What a caller owes to every entry, and nothing can
  * check:

@@ -1,4 +1,4 @@
-# What the scripts of tests/c share; each sources it first and calls `report` last. After `rt staticlib planner` and
+# What the scripts of tests/c share; each sources it first and calls `report` last. After `examples/library` and
 # `make -C examples`. What a program has to show is written in the scripts by hand; the first case that fails ends them.
 set -eu
 # signals that whoever calls this ignores, as under nohup, would not end the programs either

@@ -1,5 +1,5 @@
 //! The planner's static library beside an implementation of its own of document 01 and of the changes of document 02, written from the documents and not from the code.
-//! `rt staticlib planner` makes the library; `cargo test --release --offline` in this folder runs the tests, nearly all on a stack of 512 KiB (`stack`). With
+//! `examples/library` makes the library; `cargo test --release --offline` in this folder runs the tests, nearly all on a stack of 512 KiB (`stack`). With
 //! PLANNER_TEST_SEED=N a random run is repeated; every run prints its seed, and a call that fails prints whole. With
 //! PLANNER_TEST_TRACE set every call is printed before it is made, for one that ends the program.
 //! A `Call` is one call of a C entry with all that it is given; `library` makes it, `oracle` says what its answer has to be, `compare` puts the two side by side.
