@@ -1,6 +1,7 @@
 -- A tally for each client (document 02: desk). The clients' tallies are one lent list of 1 to 16, and a query names its
 -- client, counted from 1: it changes that client's tally and no other's.
-use Rattle.std.specs.Prelude.{◌≡◌, ◌↔◌, ◌≢◌, Bool, ◌&&◌, cond, List, ℕ, ◌-◌, ◌≤◌, length, get_or, set as replace, replicate}
+use Rattle.std.specs.Prelude.{◌≡◌, ◌↔◌, ◌≢◌, Bool, ◌&&◌, cond, List, ℕ, ◌-◌, ◌≤◌, length, get_or, set as replace}
+use Rattle.std.specs.Prelude.{replicate}
 use Rattle.theory_spec.specs.Lists.{within}
 use Rattle.model_spec.specs.declared.RuleSet.{RuleSet}
 use Rattle.search_spec.specs.Query.{Query}

@@ -1,7 +1,8 @@
 -- Outcomes 1, 2 and 3 as statements, beside the reader. The text has a faultless front, and then, where a key or an
 -- item is due: no such key, or no item with the byte that ends it (1); an item outside its limit (2); an item within
 -- its limit and out of place (3). What stands after it does not matter. Bytes left over after the whole file are 1.
-use Rattle.std.specs.Prelude.{◌≡◌, Bool, true, false, ◌&&◌, List, [], ◌∷◌, ◌++◌, map, ℕ, ◌-◌, ◌≤◌, ◌<◌, length, get_or, take}
+use Rattle.std.specs.Prelude.{◌≡◌, Bool, true, false, ◌&&◌, List, [], ◌∷◌, ◌++◌, map, ℕ, ◌-◌, ◌≤◌, ◌<◌, length, get_or}
+use Rattle.std.specs.Prelude.{take}
 use Prim.Native.String.{String}
 use Rattle.theory_spec.specs.Lists.{flat, within, every}
 use Rattle.model_spec.specs.Limits.{max_positions, max_size, max_rules, max_rule_cost}
@@ -111,7 +112,8 @@ pub data RuleFault (n positions : ℕ) (sizes text : List ℕ) : Type 0 where
       → LineFault n "if="
       (ListFault entry_text (condition_faultless positions sizes) (ConditionFault n positions sizes) positions) tail
       → RuleFault n positions sizes text
-  in_effect : (cost : ℕ) (condition tail : List ℕ) → cost ≤ max_rule_cost → condition_valid positions sizes condition ≡ true
+  in_effect : (cost : ℕ) (condition tail : List ℕ) → cost ≤ max_rule_cost
+      → condition_valid positions sizes condition ≡ true
       → text ≡ line "cost=" (numeral cost ∷ []) ++ (line "if=" (map entry_text (take positions condition)) ++ tail)
       → LineFault n "then="
       (ListFault entry_text

@@ -1,6 +1,7 @@
 -- Reading a rule file, judged in text order, item by item: an item's bytes and the byte that ends it for 1, then its
 -- limit for 2, then its place for 3, then the next item. Bytes left over are 1; duplicates, 4, come last.
-use Rattle.std.specs.Prelude.{◌≡◌, Bool, true, not, cond, ◌&&◌, ◌||◌, List, [], ◌∷◌, ◌++◌, ℕ, zero, suc, ◌+◌, ◌-◌, ◌*◌, ltb, eqb, length, get_or, drop}
+use Rattle.std.specs.Prelude.{◌≡◌, Bool, true, not, cond, ◌&&◌, ◌||◌, List, [], ◌∷◌, ◌++◌, ℕ, zero, suc, ◌+◌, ◌-◌, ◌*◌}
+use Rattle.std.specs.Prelude.{ltb, eqb, length, get_or, drop}
 use Prim.Native.String.{String}
 use Rattle.theory_spec.specs.Lists.{within, padded}
 use Rattle.model_spec.specs.Limits.{max_positions, place_count, max_size, max_rules, max_rule_cost}
@@ -59,7 +60,8 @@ decimal ds = decimal_from 0 ds
 unfoldable pub number : ℕ → List ℕ → Parsed ℕ
 number ending text =
     cond (is_number (digits text))
-    (and_read (literal (ending ∷ []) (drop (length (digits text)) text)) (λ _ rest. parsed (decimal (digits text)) rest))
+    (and_read (literal (ending ∷ []) (drop (length (digits text)) text))
+    (λ _ rest. parsed (decimal (digits text)) rest))
     (refused 1)
 
 -- ── Items, judged for 1, then 2, then 3 ──────────────────────────────────────────────────────────

@@ -1,5 +1,6 @@
 -- What the macro call answers.
-use Rattle.std.specs.Prelude.{◌≡◌, ◌⊎◌, ◌↔◌, ◌≢◌, true, not, cond, List, [], ◌∷◌, ℕ, ◌≤◌, ◌<◌, ltb, eqb, length, replicate, get_or}
+use Rattle.std.specs.Prelude.{◌≡◌, ◌⊎◌, ◌↔◌, ◌≢◌, true, not, cond, List, [], ◌∷◌, ℕ, ◌≤◌, ◌<◌, ltb, eqb, length}
+use Rattle.std.specs.Prelude.{replicate, get_or}
 use Rattle.std.proofs.Math.Option.{Option, some, none}
 use Rattle.theory_spec.specs.Lists.{any, within}
 use Rattle.theory_spec.specs.Sets.{has}

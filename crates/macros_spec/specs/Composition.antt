@@ -1,7 +1,8 @@
 -- Composition of macros: the condition and the effect of a sequence, as two vectors in the form of a rule's lines.
 -- This is source document 003 with two faults mended: its case 2(b), and its reading of effects as they stood before a
 -- replacement (docs/DECISIONS.md).
-use Rattle.std.specs.Prelude.{Bool, true, false, not, cond, ◌&&◌, List, [], ◌∷◌, map, ℕ, suc, ◌+◌, min, max, eqb, get_or, replicate}
+use Rattle.std.specs.Prelude.{Bool, true, false, not, cond, ◌&&◌, List, [], ◌∷◌, map, ℕ, suc, ◌+◌, min, max, eqb}
+use Rattle.std.specs.Prelude.{get_or, replicate}
 use Rattle.std.proofs.Math.Option.{Option, some, none}
 use Rattle.theory_spec.specs.Sequences.{Sequence}
 use Rattle.model_spec.specs.Limits.{place_count, first_variable}

@@ -29,7 +29,8 @@ last_number set = min set.count max_rules
 
 -- b, with these vectors and this cost, is redundant with a, a sequence of the set's rules
 unfoldable pub redundant_by_lines : RuleSet → Option Lines → ℕ → Sequence → Bool
-redundant_by_lines set b cost a = every (within 1 (last_number set)) a && (leb (sequence_cost set a) cost && covers set a b)
+redundant_by_lines set b cost a =
+    every (within 1 (last_number set)) a && (leb (sequence_cost set a) cost && covers set a b)
 
 -- what the test tells of vectors that mean a sequence b of a valid set's rules, and of b's cost: it passes exactly if b
 -- is redundant with a, over all states (source document 000, Definition 1)

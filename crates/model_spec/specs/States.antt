@@ -48,7 +48,8 @@ ManyValued positions sizes i = 2 ≤ width positions sizes i
 
 -- a state of the sizes: sixteen values, each below its place's width
 abbrev pub IsState : ℕ → List ℕ → State → Type 0
-IsState positions sizes s = (length s ≡ place_count) × ((i : ℕ) → i < place_count → get_or s i 0 < width positions sizes i)
+IsState positions sizes s =
+    (length s ≡ place_count) × ((i : ℕ) → i < place_count → get_or s i 0 < width positions sizes i)
 
 -- the lists that hold at each place a value below the number given for it
 abbrev pub choices : List ℕ → List State

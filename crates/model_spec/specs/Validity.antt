@@ -1,6 +1,7 @@
 -- Validity of a rule set (document 01: soundness), by limits and places alone. A place that is not used holds 0
 -- throughout. The limits are outcome 2's, the places outcome 3's, duplicates outcome 4's.
-use Rattle.std.specs.Prelude.{◌≡◌, Bool, not, cond, ◌&&◌, ◌||◌, List, ℕ, ◌-◌, ◌≤◌, ◌<◌, leb, ltb, eqb, length, get_or, replicate}
+use Rattle.std.specs.Prelude.{◌≡◌, Bool, not, cond, ◌&&◌, ◌||◌, List, ℕ, ◌-◌, ◌≤◌, ◌<◌, leb, ltb, eqb, length, get_or}
+use Rattle.std.specs.Prelude.{replicate}
 use Rattle.theory_spec.specs.Lists.{any, every, numbers_from, within, same}
 use Rattle.model_spec.specs.Limits.{max_positions, place_count, max_size, max_rules, max_rule_cost, first_variable}
 use Rattle.model_spec.specs.States.{places, is_constant, width, many_valued, ManyValued}
@@ -131,7 +132,8 @@ pub record LinesValid (positions : ℕ) (sizes condition effect : List ℕ) : Ty
   pub condition_length : length condition ≡ place_count
   pub effect_length : length effect ≡ place_count
   pub condition_entries : (i : ℕ) → i < place_count → EntryValid positions sizes condition i (get_or condition i 0)
-  pub not_later : (i : ℕ) → i < place_count → first_variable ≤ get_or condition i 0 → get_or condition i 0 - first_variable ≤ i
+  pub not_later : (i : ℕ) → i < place_count → first_variable ≤ get_or condition i 0
+      → get_or condition i 0 - first_variable ≤ i
   pub effect_entries : (i : ℕ) → i < place_count → EntryValid positions sizes condition i (get_or effect i 0)
 
 -- the set is valid but for duplicates

@@ -1,5 +1,6 @@
 -- The C entry of the explanation: it takes the rule text in place of a set, and leaves the explanation as bytes.
-use Rattle.std.specs.Prelude.{◌≡◌, ◌≢◌, cond, List, [], ◌∷◌, ◌++◌, ℕ, zero, suc, ◌+◌, ◌*◌, ◌/◌, ◌%◌, ◌≤◌, ◌<◌, leb, get_or, take, drop, replicate}
+use Rattle.std.specs.Prelude.{◌≡◌, ◌≢◌, cond, List, [], ◌∷◌, ◌++◌, ℕ, zero, suc, ◌+◌, ◌*◌, ◌/◌, ◌%◌, ◌≤◌, ◌<◌, leb}
+use Rattle.std.specs.Prelude.{get_or, take, drop, replicate}
 use Rattle.theory_spec.specs.Lists.{padded}
 use Rattle.theory_spec.specs.Sequences.{Sequence}
 use Rattle.files_spec.specs.Reading.{reading}

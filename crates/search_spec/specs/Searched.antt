@@ -1,7 +1,8 @@
 -- What a search answers: demand 3. Once the query is not refused, the answer speaks of all rule sequences. Of the table
 -- it speaks only through the unpruned ones: their number and, over the step limit, the first of them and what extends
 -- these. `room` is the plan buffer's length in bytes.
-use Rattle.std.specs.Prelude.{◌≡◌, ◌⊎◌, ◌↔◌, ◌≢◌, Bool, not, ◌&&◌, ◌||◌, cond, List, [], ◌∷◌, ◌++◌, ℕ, min, ◌*◌, ◌≤◌, ◌<◌, ltb, eqb, length, replicate}
+use Rattle.std.specs.Prelude.{◌≡◌, ◌⊎◌, ◌↔◌, ◌≢◌, Bool, not, ◌&&◌, ◌||◌, cond, List, [], ◌∷◌, ◌++◌, ℕ, min, ◌*◌, ◌≤◌}
+use Rattle.std.specs.Prelude.{◌<◌, ltb, eqb, length, replicate}
 use Rattle.std.proofs.Math.Option.{Option, some, none}
 use Rattle.theory_spec.specs.Lists.{◌∈◌, is_some, padded, Pairwise}
 use Rattle.theory_spec.specs.Sequences.{Sequence}

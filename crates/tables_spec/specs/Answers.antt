@@ -27,7 +27,8 @@ mark_causes set reach table = shape_causes set reach (length table) ++ ((14, not
 
 -- how long a table is, with an outcome: 2 × S bytes, 0 when refused
 abbrev pub size_with : RuleSet → ℕ → ℕ → TableSize
-size_with set reach outcome = record { outcome = outcome; length = cond (eqb outcome 0) (2 * table_entries set reach) 0 }
+size_with set reach outcome =
+    record { outcome = outcome; length = cond (eqb outcome 0) (2 * table_entries set reach) 0 }
 
 -- the table after the builder, with an outcome: the built table, or zeros when refused
 abbrev pub built_with : RuleSet → ℕ → ℕ → ℕ → List ℕ

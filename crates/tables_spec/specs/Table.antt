@@ -1,6 +1,7 @@
 -- The pruning table (document 01: the drop table): two bytes for each sequence of at most `reach` rules, by index, low
 -- byte first. 65535 keeps the sequence; another value marks it and is the index of its witness.
-use Rattle.std.specs.Prelude.{◌≡◌, ◌≢◌, Bool, not, cond, ◌&&◌, ◌||◌, List, [], ◌∷◌, ℕ, zero, suc, ◌+◌, ◌*◌, ◌/◌, ◌%◌, ◌^◌, ◌≤◌, ◌<◌, ltb, eqb, length, get_or, take}
+use Rattle.std.specs.Prelude.{◌≡◌, ◌≢◌, Bool, not, cond, ◌&&◌, ◌||◌, List, [], ◌∷◌, ℕ, zero, suc, ◌+◌, ◌*◌, ◌/◌, ◌%◌}
+use Rattle.std.specs.Prelude.{◌^◌, ◌≤◌, ◌<◌, ltb, eqb, length, get_or, take}
 use Rattle.theory_spec.specs.Lists.{any, every, flat, numbers_from, same}
 use Rattle.theory_spec.specs.Sequences.{Sequence, sequences, Numbered}
 use Rattle.theory_spec.specs.Order.{Before}

@@ -2,7 +2,8 @@
 #![tactic(auto)]
 
 ghost use Rattle.std.specs.Prelude.{◌≡◌, length};
-ghost use Rattle.planner_spec.specs.TextTables.{text_table_size, text_build_answer, text_built_buffer, text_check_answer};
+ghost use Rattle.planner_spec.specs.TextTables.{text_table_size, text_build_answer, text_built_buffer};
+ghost use Rattle.planner_spec.specs.TextTables.{text_check_answer};
 ghost use Rattle.planner_spec.specs.TextTables.{TextSizeMeaning, TextBuildMeaning, TextCheckMeaning};
 
 use buffers::fill_from;

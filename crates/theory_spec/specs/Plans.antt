@@ -23,7 +23,8 @@ is_plan step cost start goal max_cost q = reaches step start goal q && leb (cost
 
 -- the candidates: all sequences that lead to the goal within both bounds, pruned ones included, in document 01's order
 abbrev pub candidates : {A : Type 0} → (ℕ → A → Option A) → (ℕ → ℕ) → ℕ → A → (A → Bool) → ℕ → ℕ → List Sequence
-candidates step cost m start goal max_moves max_cost = keep (is_plan step cost start goal max_cost) (sequences m max_moves)
+candidates step cost m start goal max_moves max_cost =
+    keep (is_plan step cost start goal max_cost) (sequences m max_moves)
 
 -- q costs no more than p
 abbrev pub no_dearer : (ℕ → ℕ) → Sequence → Sequence → Bool

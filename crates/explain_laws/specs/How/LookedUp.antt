@@ -1,6 +1,6 @@
 -- Marks looked up by a sequence's index, for every number of rules, reach, table and sequence. No promise of a call
--- needs this file: the laws `looked_up_lem` and `witness-named_by` say that of a set's sequences just the marked ones pass,
--- and that the witness is the table's.
+-- needs this file: the laws `looked_up_lem` and `witness-named_by` say that of a set's sequences just the marked ones
+-- pass, and that the witness is the table's.
 use Rattle.std.specs.Prelude.{Bool, not, cond, ◌&&◌, List, [], ℕ, min, leb, eqb, length, take}
 use Rattle.theory_spec.specs.Sequences.{Sequence}
 use Rattle.theory_spec.specs.How.Indices.{index_of}

@@ -35,4 +35,5 @@ condition_entry positions sizes before i ending text =
 -- an entry of a `then` line at place i, judged for its place by the `if` line
 unfoldable pub effect_entry : ℕ → List ℕ → List ℕ → ℕ → ℕ → List ℕ → Parsed ℕ
 effect_entry positions sizes condition i ending text =
-    refused_unless 3 (effect_placed positions sizes condition i) (entry (min positions max_positions) sizes i ending text)
+    refused_unless 3 (effect_placed positions sizes condition i)
+    (entry (min positions max_positions) sizes i ending text)

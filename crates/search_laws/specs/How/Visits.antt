@@ -1,7 +1,8 @@
 -- How the search goes about it, over what it lends to itself: the rules' lines and costs, the look-up, the goal and the
 -- limits. No promise of a call needs this file, only those of functions below the calls; the laws in proofs/ equate it
 -- with the definitions of `search_spec`.
-use Rattle.std.specs.Prelude.{◌≡◌, Bool, true, false, not, cond, ◌&&◌, ◌||◌, List, [], ◌∷◌, ℕ, zero, suc, ◌+◌, ◌-◌, ◌≤◌, ◌<◌, min, leb, ltb, eqb, length, get_or, take, drop, replicate}
+use Rattle.std.specs.Prelude.{◌≡◌, Bool, true, false, not, cond, ◌&&◌, ◌||◌, List, [], ◌∷◌, ℕ, zero, suc, ◌+◌, ◌-◌, ◌≤◌}
+use Rattle.std.specs.Prelude.{◌<◌, min, leb, ltb, eqb, length, get_or, take, drop, replicate}
 use Rattle.std.proofs.Math.Option.{Option, some, none}
 use Rattle.theory_spec.specs.Lists.{only_if, padded, same}
 use Rattle.theory_spec.specs.Sequences.{Sequence, cost_of, Numbered}

@@ -1,6 +1,7 @@
 -- How a recursive search may go about it. No promise of a call needs this file, only those of functions below the
 -- calls; the laws in proofs/ equate it with `visited` and `cheapest`.
-use Rattle.std.specs.Prelude.{Bool, not, cond, ◌&&◌, ◌||◌, List, [], ◌∷◌, ◌++◌, ℕ, zero, suc, ◌-◌, leb, ltb, eqb, length, drop}
+use Rattle.std.specs.Prelude.{Bool, not, cond, ◌&&◌, ◌||◌, List, [], ◌∷◌, ◌++◌, ℕ, zero, suc, ◌-◌, leb, ltb, eqb}
+use Rattle.std.specs.Prelude.{length, drop}
 use Rattle.std.proofs.Math.Option.{Option, some, none}
 use Rattle.theory_spec.specs.Lists.{any, keep, flat}
 use Rattle.theory_spec.specs.How.Folds.{fold_over}
