@@ -1,5 +1,4 @@
 -- `mark_output::put_mark` meets its contract: nothing, or four lines, laid one after the other.
-use borrow.Author.Rules.{rules}
 use Rattle.files_spec.specs.Text.{line}
 use Rattle.output_laws.proofs.OverlayLaws.{laid_none, laid-append}
 use Rattle.report_laws.proofs.MarkLoopLaws.{entry_kept, entry-marked}

@@ -1,7 +1,6 @@
 -- `mark_output::touched_at` meets its contract: the two sets are those of the sequence's vectors.
 use mathlib.Core.Path.{◌≡◌, ap, ap₂, ◌∙◌}
 use Prim.Native.Nat.{ℕ}
-use borrow.Author.Rules.{rules}
 use Rattle.model_spec.specs.declared.RuleSet.{RuleSet}
 use Rattle.macros_spec.specs.Composition.{composed, as_vectors, lines_of}
 use Rattle.macros_spec.specs.Answers.{touched_in}
