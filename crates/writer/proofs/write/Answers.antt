@@ -1,18 +1,15 @@
 -- `writer::write` meets its contract. Each way out has one cause or none, and zeros after what was laid; the place
--- after
--- a valid set's file is the file's length. What is left has its meaning.
-use mathlib.Core.Path.{◌≡◌, refl, ap, ◌∙◌}
+-- after a valid set's file is the file's length. What is left has its meaning.
+use mathlib.Core.Path.{◌≡◌, refl, sym, ap, ◌∙◌}
 use mathlib.Core.Bool.{true, false}
 use mathlib.Core.List.{List, []}
 use Prim.Native.Nat.{ℕ, ◌≤◌, ◌<◌}
 use native.Mathlib.Omega.{arith}
 use lib.ListN.{length}
 use borrow.Author.Tests.{lt-ltb, le-ltb}
-use borrow.Author.Rules.{rules}
 use Rattle.theory_spec.specs.Lists.{padded}
 use Rattle.model_spec.specs.Validity.{valid}
 use Rattle.model_spec.specs.declared.RuleSet.{RuleSet}
-use Rattle.model_spec.proofs.LoopLaws.{failed, passed}
 use Rattle.files_spec.specs.File.{render}
 use Rattle.files_spec.specs.Writing.{write_causes, written_text, written, written_buffer}
 use Rattle.files_spec.specs.Meaning.{WriteMeaning}
@@ -50,14 +47,14 @@ pub returns-then-not-is_valid : goal.returns-then-not-is_valid
 returns-then-not-is_valid c =
     let s = c.args in
     let room = length s.text.now in
-    let w = not_valid s.set room (failed c.is_valid.ensures.0 c.if-not-is_valid.true-raw) in
+    let w = not_valid s.set room (sym c.is_valid.ensures.0 ∙ c.if-not-is_valid.true) in
     answers s.set room _ _ w.0 (c.fill_from.ensures ∙ zeros-whole _ ∙ w.1)
 
 pub returns-then-text-end : goal.returns-then-text-end
 returns-then-text-end c =
     let s = c.args in
     let room = length s.text.now in
-    let t = passed c.is_valid.ensures.0 c.if-not-is_valid.left in
+    let t = sym c.is_valid.ensures.0 ∙ c.if-not-is_valid.false in
     let laid = c.put_file-end.ensures in
     let same = laid-length laid in
     let end = laid_end laid (omega (arith, render_bound s.set t)) in
@@ -69,7 +66,7 @@ pub returns : goal.returns
 returns c =
     let s = c.args in
     let room = length s.text.now in
-    let t = passed c.is_valid.ensures.0 c.if-not-is_valid.left in
+    let t = sym c.is_valid.ensures.0 ∙ c.if-not-is_valid.false in
     let laid = c.put_file-end.ensures in
     let same = laid-length laid in
     let low : length (render s.set) ≤ last_place = omega (arith, render_bound s.set t) in
