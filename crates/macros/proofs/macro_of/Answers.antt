@@ -10,8 +10,8 @@ use Rattle.macros_spec.proofs.MacroLaws.{answer_meaning}
 use Rattle.macros.proofs.macro_of.Goals as goal
 
 -- an answer that is the definition's has its meaning
-answers : (set : RuleSet) (moves : Sequence) (r : MacroAnswer) → macro_answer set moves ≡ r → (r ≡ macro_answer set moves)
-    × Meaning set moves r
+answers : (set : RuleSet) (moves : Sequence) (r : MacroAnswer) → macro_answer set moves ≡ r
+    → (r ≡ macro_answer set moves) × Meaning set moves r
 answers set moves r e = (sym e, subst (Meaning set moves) e (answer_meaning set moves))
 
 pub returns-then-not-is_valid : goal.returns-then-not-is_valid
