@@ -1,11 +1,10 @@
 -- `search::put_moves` meets its contract. The invariant: the first i bytes of the buffer are moves, the others what
 -- they were.
 use mathlib.Core.Path.{◌≡◌, refl, ◌∙◌}
-use Prim.Native.Nat.{◌≤◌, ◌-◌}
 use native.Mathlib.Omega.{arith}
-use lib.ListN.{length, length-set}
+use lib.ListN.{length-set}
 use borrow.Author.Rules.{rules}
-use Rattle.model_spec.proofs.CopyLaws.{copied, copied_more}
+use Rattle.model_spec.proofs.CopyLaws.{copied_more}
 use Rattle.search.proofs.put_moves.Goals as goal
 
 pub loop-i-init : goal.loop-i-init

@@ -1,11 +1,9 @@
 -- `search::put_moves` meets its contract. The invariant: the first i bytes of the buffer are moves, the others what
 -- they were.
-use mathlib.Core.Path.{◌≡◌, refl, ◌∙◌}
+use mathlib.Core.Path.{◌≡◌}
 use Prim.Native.Nat.{◌≤◌, ◌-◌}
-use native.Mathlib.Omega.{arith}
-use lib.ListN.{length, length-set}
-use borrow.Author.Rules.{rules}
-use Rattle.model_spec.proofs.CopyLaws.{copied, copied_more}
+use lib.ListN.{length}
+use Rattle.model_spec.proofs.CopyLaws.{copied}
 use Rattle.search.proofs.put_moves.Given as goal
 
 abbrev pub invariant-loop-i : goal.invariant-loop-i
