@@ -9,7 +9,6 @@ use Rattle.theory_spec.specs.Lists.{any, every, within}
 use Rattle.theory_spec.specs.Sequences.{Sequence, Numbered}
 use Rattle.model_spec.specs.Rules.{run_in, sequence_cost}
 use Rattle.model_spec.specs.declared.RuleSet.{RuleSet}
-use Rattle.model_spec.proofs.LoopLaws.{failed, passed}
 use Rattle.macros_spec.specs.Composition.{lines_of}
 use Rattle.macros_spec.specs.declared.Vectors.{Vectors}
 use Rattle.macros_spec.specs.Redundancy.{ends_in, covers, last_number, redundant_by_lines, TellsRedundancy}
@@ -73,13 +72,16 @@ pub returns-then-not-costs_at_most : goal.returns-then-not-costs_at_most
 returns-then-not-costs_at_most c =
     let s = c.args in
     dearer s.set s.sequence s.cost s.witness.now _ c.last_number-last.ensures
-    (sym c.has_unknown_move.ensures ∙ c.if-has_unknown_move.false) (failed c.costs_at_most.ensures c.if-not-costs_at_most.true-raw)
+    (sym c.has_unknown_move.ensures ∙ c.if-has_unknown_move.false)
+    (sym c.costs_at_most.ensures ∙ c.if-not-costs_at_most.true)
 
 pub returns-then-not-sequence : goal.returns-then-not-sequence
 returns-then-not-sequence c =
     let s = c.args in
     never-run s.set s.sequence s.cost s.witness.now _ c.last_number-last.ensures
-    (sym c.has_unknown_move.ensures ∙ c.if-has_unknown_move.false) (passed c.costs_at_most.ensures c.if-not-costs_at_most.false-raw) (not-true _ c.if-not-sequence.true)
+    (sym c.has_unknown_move.ensures ∙ c.if-has_unknown_move.false)
+    (sym c.costs_at_most.ensures ∙ c.if-not-costs_at_most.false)
+    (not-true _ c.if-not-sequence.true)
 
 pub leads-requires : goal.leads-requires
 leads-requires c =
@@ -91,5 +93,6 @@ pub returns : goal.returns
 returns c =
     let s = c.args in
     compared s.set s.sequence s.cost s.witness.now _ c.last_number-last.ensures
-    (sym c.has_unknown_move.ensures ∙ c.if-has_unknown_move.false) (passed c.costs_at_most.ensures c.if-not-costs_at_most.false-raw)
+    (sym c.has_unknown_move.ensures ∙ c.if-has_unknown_move.false)
+    (sym c.costs_at_most.ensures ∙ c.if-not-costs_at_most.false)
     (not-false _ c.if-not-sequence.false) _ c.leads.ensures

@@ -8,7 +8,10 @@ use Rattle.macros_spec.specs.Redundancy.{ends_in}
 use Rattle.redundancy.proofs.leads.Given as goal
 
 abbrev pub invariant-loop-i : goal.invariant-loop-i
-invariant-loop-i l = (l.i ≤ length l.moves) × (ends_in (run_in l.set (drop l.i l.moves) l.entries) l.effect ≡ ends_in (run_in l.set l.moves l.initial.entries) l.effect)
+invariant-loop-i l =
+    (l.i ≤ length l.moves)
+    × (ends_in (run_in l.set (drop l.i l.moves) l.entries) l.effect
+    ≡ ends_in (run_in l.set l.moves l.initial.entries) l.effect)
 
 abbrev pub decreases-loop-i : goal.decreases-loop-i
 decreases-loop-i l = length l.moves - l.i
