@@ -5,7 +5,6 @@ use mathlib.Core.List.{List}
 use Prim.Native.Nat.{ℕ, ◌≤◌}
 use native.Mathlib.Omega.{arith}
 use lib.ListN.{length, replicate, length-replicate}
-use borrow.Author.Rules.{rules}
 use Rattle.theory_spec.specs.Lists.{padded}
 use Rattle.model_spec.proofs.BufferLaws.{filled-whole}
 use Rattle.files_spec.specs.Reading.{reading}
@@ -18,31 +17,95 @@ use Rattle.planner_spec.proofs.TextMacroLaws.{fitted, fitted_0, macro-given, mac
 use Rattle.planner_spec.proofs.TextMacroLaws.{text-macro-meaning}
 use Rattle.text_macros.proofs.macro_of.Goals as goal
 
--- ── Places ───────────────────────────────────────────────────────────────────────────────────────
+module _ (text moves : List ℕ) (room : ℕ) where
+  -- what is promised of a number and a buffer holds of the definition's answer
+  promised : (answer : MacroAnswer) (buffer : List ℕ) → text_macro text moves room ≡ answer
+      → buffer ≡ macro_buffer room answer
+      → (answer.outcome ≡ (text_macro text moves room).outcome)
+      × (buffer ≡ macro_buffer room (text_macro text moves room))
+      × TextMacroMeaning text moves room answer.outcome buffer
+  promised answer buffer e b =
+      let outcome = ap (λ (a : MacroAnswer). a.outcome) (sym e) in
+      let left = b ∙ ap (macro_buffer room) (sym e) in
+      (outcome, left, rw (outcome, left) (text-macro-meaning text moves room))
+
+  -- the call's answer for the set that is read
+  own : (file : Reading) (answer : MacroAnswer) → file ≡ reading text → answer ≡ macro_answer file.set moves
+      → answer ≡ macro_answer (reading text).set moves
+  own file answer f e = e ∙ ap (λ (r : Reading). macro_answer r.set moves) f
+
+  -- and its outcome once fitted
+  refusal : (answer : MacroAnswer) (size n : ℕ) → answer ≡ macro_answer (reading text).set moves → size ≡ room
+      → n ≡ fitted answer.outcome size → n ≡ fitted (macro_answer (reading text).set moves).outcome room
+  refusal answer size n e k h =
+      h ∙ ap (λ (a : MacroAnswer). fitted a.outcome size) e
+      ∙ ap (fitted (macro_answer (reading text).set moves).outcome) k
+
+  -- where that is 0, there is a macro, and room for it
+  fits : fitted (macro_answer (reading text).set moves).outcome room ≡ 0
+      → ((macro_answer (reading text).set moves).outcome ≡ 0) × (macro_size ≤ room)
+  fits e = fitted_0 (macro_answer (reading text).set moves).outcome room e
+
+-- the text is read
+taken : (text : List ℕ) (file : Reading) → file ≡ reading text → file.outcome ≡ 0 → (reading text).outcome ≡ 0
+taken text file f z = sym (ap (λ (r : Reading). r.outcome) f) ∙ z
+
+-- the zeroed buffer keeps its length
+sized : (out zeroed : List ℕ) → zeroed ≡ replicate (length out) 0 → length zeroed ≡ length out
+sized out zeroed e = ap length e ∙ length-replicate (length out) 0
 
 -- ── The ways out ─────────────────────────────────────────────────────────────────────────────────
 
 pub returns-then-file-ne0 : goal.returns-then-file-ne0
 returns-then-file-ne0 c =
+    let text = c.args.text.now in
+    let moves = c.args.moves.now in
     let room = length c.args.out.now in
+    let zeroed = c.fill_from.ensures ∙ filled-whole 0 c.args.out.now in
     let outcome = ap (λ (f : Reading). f.outcome) c.read-file.ensures.0 in
-    let refused = macro-refused c.args.text.now c.args.moves.now room (λ z. c.if-file-ne0.true (outcome ∙ z)) in
+    let refused = macro-refused text moves room (λ z. c.if-file-ne0.true (outcome ∙ z)) in
     let answer = refused_macro c.read-file.result.outcome in
-    (let room = length c.args.out.now in let outcome = ap (λ (a : MacroAnswer). a.outcome) (sym (refused ∙ ap refused_macro (sym outcome))) in let left = ((c.fill_from.ensures ∙ filled-whole 0 c.args.out.now) ∙ sym (buffer-refused room answer c.if-file-ne0.true)) ∙ ap (macro_buffer room) (sym (refused ∙ ap refused_macro (sym outcome))) in (outcome, left, rw (outcome, left) (text-macro-meaning c.args.text.now c.args.moves.now room)))
+    promised text moves room answer _ (refused ∙ ap refused_macro (sym outcome))
+    (zeroed ∙ sym (buffer-refused room answer c.if-file-ne0.true))
 
 pub returns-then-refusal-ne0 : goal.returns-then-refusal-ne0
 returns-then-refusal-ne0 c =
+    let text = c.args.text.now in
+    let moves = c.args.moves.now in
     let room = length c.args.out.now in
+    let zeroed = c.fill_from.ensures ∙ filled-whole 0 c.args.out.now in
+    let file = c.read-file.ensures.0 in
+    let given = own text moves room _ _ file c.macro_of-answer.ensures.0 in
+    let refused = refusal text moves room _ _ _ given (sized _ _ zeroed) c.fitted-refusal.ensures in
     let answer = refused_macro c.fitted-refusal.result in
-    (let room = length c.args.out.now in let outcome = ap (λ (a : MacroAnswer). a.outcome) (sym (macro-denied c.args.text.now c.args.moves.now room _ ((sym (ap (λ (f : Reading). f.outcome) c.read-file.ensures.0) ∙ c.if-file-ne0.false)) ((c.fitted-refusal.ensures ∙ ap (λ (a : MacroAnswer). fitted a.outcome (length c.fill_from.last.0)) ((c.macro_of-answer.ensures.0 ∙ ap (λ (f : Reading). macro_answer f.set c.args.moves.now) c.read-file.ensures.0)) ∙ ap (fitted ((macro_answer (reading c.args.text.now).set c.args.moves.now)).outcome) ((ap length (c.fill_from.ensures ∙ filled-whole 0 c.args.out.now) ∙ length-replicate (length c.args.out.now) 0)))) c.if-refusal-ne0.true)) in let left = ((c.fill_from.ensures ∙ filled-whole 0 c.args.out.now) ∙ sym (buffer-refused room answer c.if-refusal-ne0.true)) ∙ ap (macro_buffer room) (sym (macro-denied c.args.text.now c.args.moves.now room _ ((sym (ap (λ (f : Reading). f.outcome) c.read-file.ensures.0) ∙ c.if-file-ne0.false)) ((c.fitted-refusal.ensures ∙ ap (λ (a : MacroAnswer). fitted a.outcome (length c.fill_from.last.0)) ((c.macro_of-answer.ensures.0 ∙ ap (λ (f : Reading). macro_answer f.set c.args.moves.now) c.read-file.ensures.0)) ∙ ap (fitted ((macro_answer (reading c.args.text.now).set c.args.moves.now)).outcome) ((ap length (c.fill_from.ensures ∙ filled-whole 0 c.args.out.now) ∙ length-replicate (length c.args.out.now) 0)))) c.if-refusal-ne0.true)) in (outcome, left, rw (outcome, left) (text-macro-meaning c.args.text.now c.args.moves.now room)))
+    promised text moves room answer _
+    (macro-denied text moves room _ (taken text _ file c.if-file-ne0.false) refused c.if-refusal-ne0.true)
+    (zeroed ∙ sym (buffer-refused room answer c.if-refusal-ne0.true))
 
 pub put_macro-requires : goal.put_macro-requires
-put_macro-requires c = omega (arith, ((fitted_0 ((macro_answer (reading c.args.text.now).set c.args.moves.now)).outcome (length c.args.out.now) ((sym ((c.fitted-refusal.ensures ∙ ap (λ (a : MacroAnswer). fitted a.outcome (length c.fill_from.last.0)) ((c.macro_of-answer.ensures.0 ∙ ap (λ (f : Reading). macro_answer f.set c.args.moves.now) c.read-file.ensures.0)) ∙ ap (fitted ((macro_answer (reading c.args.text.now).set c.args.moves.now)).outcome) ((ap length (c.fill_from.ensures ∙ filled-whole 0 c.args.out.now) ∙ length-replicate (length c.args.out.now) 0)))) ∙ c.if-refusal-ne0.false)))).1, (ap length (c.fill_from.ensures ∙ filled-whole 0 c.args.out.now) ∙ length-replicate (length c.args.out.now) 0))
+put_macro-requires c =
+    let text = c.args.text.now in
+    let moves = c.args.moves.now in
+    let room = length c.args.out.now in
+    let same = sized _ _ (c.fill_from.ensures ∙ filled-whole 0 c.args.out.now) in
+    let given = own text moves room _ _ c.read-file.ensures.0 c.macro_of-answer.ensures.0 in
+    let passed = sym (refusal text moves room _ _ _ given same c.fitted-refusal.ensures) ∙ c.if-refusal-ne0.false in
+    omega (arith, (fits text moves room passed).1, same)
 
 pub returns : goal.returns
 returns c =
+    let text = c.args.text.now in
+    let moves = c.args.moves.now in
     let room = length c.args.out.now in
-    let outcome = ap (λ (a : MacroAnswer). a.outcome) ((c.macro_of-answer.ensures.0 ∙ ap (λ (f : Reading). macro_answer f.set c.args.moves.now) c.read-file.ensures.0)) ∙ ((fitted_0 ((macro_answer (reading c.args.text.now).set c.args.moves.now)).outcome (length c.args.out.now) ((sym ((c.fitted-refusal.ensures ∙ ap (λ (a : MacroAnswer). fitted a.outcome (length c.fill_from.last.0)) ((c.macro_of-answer.ensures.0 ∙ ap (λ (f : Reading). macro_answer f.set c.args.moves.now) c.read-file.ensures.0)) ∙ ap (fitted ((macro_answer (reading c.args.text.now).set c.args.moves.now)).outcome) ((ap length (c.fill_from.ensures ∙ filled-whole 0 c.args.out.now) ∙ length-replicate (length c.args.out.now) 0)))) ∙ c.if-refusal-ne0.false)))).0 in
+    let same = sized _ _ (c.fill_from.ensures ∙ filled-whole 0 c.args.out.now) in
+    let file = c.read-file.ensures.0 in
+    let whole = own text moves room _ _ file c.macro_of-answer.ensures.0 in
+    let passed = sym (refusal text moves room _ _ _ whole same c.fitted-refusal.ensures) ∙ c.if-refusal-ne0.false in
+    let outcome = ap (λ (a : MacroAnswer). a.outcome) whole ∙ (fits text moves room passed).0 in
     let given = c.macro_of-answer.result in
     let answer : MacroAnswer = record { outcome = 0; result = given.result; touched = given.touched } in
-    (let room = length c.args.out.now in let outcome = ap (λ (a : MacroAnswer). a.outcome) (sym (macro-given c.args.text.now c.args.moves.now room ((sym (ap (λ (f : Reading). f.outcome) c.read-file.ensures.0) ∙ c.if-file-ne0.false)) ((sym ((c.fitted-refusal.ensures ∙ ap (λ (a : MacroAnswer). fitted a.outcome (length c.fill_from.last.0)) ((c.macro_of-answer.ensures.0 ∙ ap (λ (f : Reading). macro_answer f.set c.args.moves.now) c.read-file.ensures.0)) ∙ ap (fitted ((macro_answer (reading c.args.text.now).set c.args.moves.now)).outcome) ((ap length (c.fill_from.ensures ∙ filled-whole 0 c.args.out.now) ∙ length-replicate (length c.args.out.now) 0)))) ∙ c.if-refusal-ne0.false)) ∙ sym ((c.macro_of-answer.ensures.0 ∙ ap (λ (f : Reading). macro_answer f.set c.args.moves.now) c.read-file.ensures.0)) ∙ (λ i. record { outcome = outcome i; result = given.result; touched = given.touched }))) in let left = (c.put_macro.ensures ∙ ap (λ n. padded n 0 (macro_bytes given.result given.touched)) ((ap length (c.fill_from.ensures ∙ filled-whole 0 c.args.out.now) ∙ length-replicate (length c.args.out.now) 0)) ∙ sym (buffer-given room answer refl)) ∙ ap (macro_buffer room) (sym (macro-given c.args.text.now c.args.moves.now room ((sym (ap (λ (f : Reading). f.outcome) c.read-file.ensures.0) ∙ c.if-file-ne0.false)) ((sym ((c.fitted-refusal.ensures ∙ ap (λ (a : MacroAnswer). fitted a.outcome (length c.fill_from.last.0)) ((c.macro_of-answer.ensures.0 ∙ ap (λ (f : Reading). macro_answer f.set c.args.moves.now) c.read-file.ensures.0)) ∙ ap (fitted ((macro_answer (reading c.args.text.now).set c.args.moves.now)).outcome) ((ap length (c.fill_from.ensures ∙ filled-whole 0 c.args.out.now) ∙ length-replicate (length c.args.out.now) 0)))) ∙ c.if-refusal-ne0.false)) ∙ sym ((c.macro_of-answer.ensures.0 ∙ ap (λ (f : Reading). macro_answer f.set c.args.moves.now) c.read-file.ensures.0)) ∙ (λ i. record { outcome = outcome i; result = given.result; touched = given.touched }))) in (outcome, left, rw (outcome, left) (text-macro-meaning c.args.text.now c.args.moves.now room)))
+    promised text moves room answer _
+    (macro-given text moves room (taken text _ file c.if-file-ne0.false) passed
+    ∙ sym whole ∙ (λ i. record { outcome = outcome i; result = given.result; touched = given.touched }))
+    (c.put_macro.ensures ∙ ap (λ n. padded n 0 (macro_bytes given.result given.touched)) same
+    ∙ sym (buffer-given room answer refl))
