@@ -1,13 +1,10 @@
 -- `table_output::count_marks` meets its contract. The invariant: the marks so far and those from place i on are all.
-use mathlib.Core.Path.{◌≡◌, sym, ap, ◌∙◌}
-use mathlib.Core.Logic.{⊎_elim}
-use Prim.Native.Nat.{◌+◌, ◌-◌, ◌/◌, ◌≤◌}
+use mathlib.Core.Path.{sym, ap, ◌∙◌}
 use native.Mathlib.Omega.{arith}
 use lib.ListN.{length}
-use borrow.Author.Rules.{rules}
-use Rattle.report_laws.specs.How.Marks.{table_marks}
-use Rattle.report_laws.proofs.MarkLoopLaws.{marks_from, marks_all, marks_more, marks_next, marks-end}
+use Rattle.report_laws.proofs.MarkLoopLaws.{marks_all, marks_more, marks_next, marks-end}
 use Rattle.table_output.proofs.count_marks.Goals as goal
+use Rattle.table_output.proofs.count_marks.Goals.{then-entry_at-ne-KEPT, else-entry_at-ne-KEPT}
 
 pub loop-i-init : goal.loop-i-init
 loop-i-init c = (omega arith, omega arith, omega (arith, ap length (marks_all c.args.table.now)))
@@ -27,12 +24,14 @@ loop-i-preserved c =
     let table = c.args.table.now in
     let h = c.loop-i-test.true in
     let entry = c.entry_at.ensures.0 in
-    ⊎_elim (λ w.
-    let more = marks_more table l.i h (λ k. w.0.taken (entry ∙ k)) in
-    (omega (arith, w.1), omega arith, omega (arith, w.1, ap length more))) (λ w.
-    let next = marks_next table l.i h (sym entry ∙ w.0.left) in
-    (omega (arith, w.1), omega arith, omega (arith, w.1, ap length next)))
-    c.if-entry_at-ne-KEPT.branch
+    elim c.if-entry_at-ne-KEPT.branch [
+      | then-entry_at-ne-KEPT w ↦
+          let more = marks_more table l.i h (λ k. w.if-entry_at-ne-KEPT.true (entry ∙ k)) in
+          (omega (arith, w.marks-is), omega arith, omega (arith, w.marks-is, ap length more))
+      | else-entry_at-ne-KEPT w ↦
+          let next = marks_next table l.i h (sym entry ∙ w.if-entry_at-ne-KEPT.false) in
+          (omega (arith, w.marks-is), omega arith, omega (arith, w.marks-is, ap length next))
+    ]
 
 pub returns : goal.returns
 returns c =

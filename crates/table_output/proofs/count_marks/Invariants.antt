@@ -1,12 +1,9 @@
 -- `table_output::count_marks` meets its contract. The invariant: the marks so far and those from place i on are all.
-use mathlib.Core.Path.{◌≡◌, sym, ap, ◌∙◌}
-use mathlib.Core.Logic.{⊎_elim}
+use mathlib.Core.Path.{◌≡◌}
 use Prim.Native.Nat.{◌+◌, ◌-◌, ◌/◌, ◌≤◌}
-use native.Mathlib.Omega.{arith}
 use lib.ListN.{length}
-use borrow.Author.Rules.{rules}
 use Rattle.report_laws.specs.How.Marks.{table_marks}
-use Rattle.report_laws.proofs.MarkLoopLaws.{marks_from, marks_all, marks_more, marks_next, marks-end}
+use Rattle.report_laws.proofs.MarkLoopLaws.{marks_from}
 use Rattle.table_output.proofs.count_marks.Given as goal
 
 abbrev pub invariant-loop-i : goal.invariant-loop-i

@@ -1,11 +1,7 @@
 -- `table_output::put_marks` meets its contract. The invariant: the lines of the entries from place i on remain.
-use Prim.Native.Nat.{◌-◌, ◌/◌, ◌≤◌}
 use native.Mathlib.Omega.{arith}
-use lib.ListN.{length}
-use borrow.Author.Rules.{rules}
-use Rattle.output_laws.proofs.OverlayLaws.{Remains, remains_all, remains-length, remains_none, remains-rest}
-use Rattle.report_laws.specs.How.Marks.{marks_text}
-use Rattle.report_laws.proofs.MarkLoopLaws.{lines_from, lines_all, lines_more, lines_end}
+use Rattle.output_laws.proofs.OverlayLaws.{remains_all, remains-length, remains_none, remains-rest}
+use Rattle.report_laws.proofs.MarkLoopLaws.{lines_all, lines_more, lines_end}
 use Rattle.table_output.proofs.put_marks.Goals as goal
 
 pub loop-i-init : goal.loop-i-init

@@ -1,11 +1,9 @@
 -- `table_output::put_marks` meets its contract. The invariant: the lines of the entries from place i on remain.
 use Prim.Native.Nat.{◌-◌, ◌/◌, ◌≤◌}
-use native.Mathlib.Omega.{arith}
 use lib.ListN.{length}
-use borrow.Author.Rules.{rules}
-use Rattle.output_laws.proofs.OverlayLaws.{Remains, remains_all, remains-length, remains_none, remains-rest}
+use Rattle.output_laws.proofs.OverlayLaws.{Remains}
 use Rattle.report_laws.specs.How.Marks.{marks_text}
-use Rattle.report_laws.proofs.MarkLoopLaws.{lines_from, lines_all, lines_more, lines_end}
+use Rattle.report_laws.proofs.MarkLoopLaws.{lines_from}
 use Rattle.table_output.proofs.put_marks.Given as goal
 
 abbrev pub invariant-loop-i : goal.invariant-loop-i
