@@ -3,7 +3,6 @@ use mathlib.Core.Path.{◌≡◌, sym, ap, ◌∙◌}
 use mathlib.Core.List.{List}
 use Prim.Native.Nat.{ℕ, ◌*◌}
 use native.Mathlib.Omega.{arith}
-use borrow.Author.Rules.{rules}
 use Rattle.model_spec.specs.Validity.{Valid}
 use Rattle.model_spec.specs.declared.RuleSet.{RuleSet}
 use Rattle.tables_spec.specs.Table.{table_entries, built_table}
@@ -28,12 +27,6 @@ module _ (set : RuleSet) (valid : Valid set) where
 
 pub returns : goal.returns
 returns c =
-    ?
-
--- OLD at After-slice_known4: let laid = c.before.before in
---       let lent = laid.before.before in
---       let build = lent.before.before.before in
---       let known = build.before.before in
---       let s = known.before.before in
---       let whole = build.build-table.ensures.1 ∙ built s.args.set s.requires.0 _ s.requires.1 in
---       rw (lists s.args.set s.requires.0 _ whole) laid.put-table.ensures
+    let s = c.args in
+    let whole = c.build_table.ensures.1 ∙ built s.set c.requires.0 _ c.requires.1 in
+    rw (lists s.set c.requires.0 _ whole) c.put_table.ensures

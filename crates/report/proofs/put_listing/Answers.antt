@@ -1,7 +1,6 @@
 -- `report::put_listing` meets its contract: one line for a refused text, the listing of its set for another.
 use native.Mathlib.Omega.{arith}
 use borrow.Author.Tests.{eq-eqb, ne_eqb}
-use borrow.Author.Rules.{rules}
 use Rattle.files_spec.specs.Text.{line}
 use Rattle.output_laws.proofs.OverlayLaws.{shown-number}
 use Rattle.report.proofs.put_listing.Goals as goal

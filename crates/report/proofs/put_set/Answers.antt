@@ -1,12 +1,10 @@
--- `report::put_set` meets its contract: the part of the array that is lent has room for the table, and the array for
--- that
--- part.
+-- `report::put_set` meets its contract: the part of the array that is lent has room for the table, and the array
+-- for that part.
 use mathlib.Core.Path.{◌≡◌, sym, ap, ◌∙◌}
 use Prim.Native.Nat.{ℕ, ◌*◌, ◌≤◌}
 use native.Mathlib.Omega.{arith}
 use lib.ListN.{length, take, replicate, length-replicate}
 use lib.Seq.{length-take-le}
-use borrow.Author.Rules.{rules}
 use Rattle.model_spec.specs.Validity.{Valid}
 use Rattle.model_spec.specs.declared.RuleSet.{RuleSet}
 use Rattle.tables_spec.specs.Table.{sequence_count, table_entries}
