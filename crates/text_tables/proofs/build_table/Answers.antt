@@ -4,7 +4,6 @@ use mathlib.Core.Path.{◌≡◌, sym, ap, ◌∙◌}
 use mathlib.Core.List.{List}
 use Prim.Native.Nat.{ℕ}
 use lib.ListN.{length}
-use borrow.Author.Rules.{rules}
 use Rattle.model_spec.proofs.BufferLaws.{filled-whole}
 use Rattle.files_spec.specs.declared.Reading.{Reading}
 use Rattle.tables_spec.specs.Answers.{built_buffer}

@@ -2,7 +2,6 @@
 use mathlib.Core.Path.{◌≡◌, sym, ap, subst, ◌∙◌}
 use mathlib.Core.List.{List}
 use Prim.Native.Nat.{ℕ}
-use borrow.Author.Rules.{rules}
 use Rattle.files_spec.specs.declared.Reading.{Reading}
 use Rattle.tables_spec.specs.declared.TableSize.{TableSize}
 use Rattle.tables_spec.specs.Answers.{table_size}
