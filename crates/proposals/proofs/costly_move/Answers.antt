@@ -1,15 +1,12 @@
 -- `proposals::costly_move` meets its contract. The invariant: the total is the cost of the moves before i, within the
 -- bound, and the moves from i on decide which one passes it first.
-use mathlib.Core.Path.{◌≡◌, refl}
-use Prim.Native.Nat.{◌≤◌, ◌-◌}
+use mathlib.Core.Path.{refl}
 use native.Mathlib.Omega.{arith}
-use lib.Dec.{ltb}
-use lib.ListN.{length, take}
-use borrow.Author.Rules.{rules}
+use lib.ListN.{length}
 use borrow.Author.Tests.{lt-ltb, le-ltb}
 use Rattle.model_spec.specs.Rules.{sequence_cost}
 use Rattle.explain_spec.specs.Reasons.{costly_move}
-use Rattle.explain_laws.proofs.ProposalLoopLaws.{first_behind, behind-start, behind_go, behind_stop, behind-end}
+use Rattle.explain_laws.proofs.ProposalLoopLaws.{behind-start, behind_go, behind_stop, behind-end}
 use Rattle.explain_laws.proofs.ProposalLoopLaws.{cost_more}
 use Rattle.proposals.proofs.costly_move.Goals as goal
 

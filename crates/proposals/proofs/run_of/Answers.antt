@@ -1,18 +1,16 @@
 -- `proposals::run_of` meets its contract. The invariant: the moves before i lead to the state, and those from i on
 -- decide which one fails first.
-use mathlib.Core.Path.{◌≡◌, refl, sym, ap, ◌∙◌}
+use mathlib.Core.Path.{refl, sym, ap, ◌∙◌}
 use mathlib.Core.Bool.{not}
 use mathlib.Core.Option.{some}
-use Prim.Native.Nat.{◌≤◌, ◌<◌, ◌-◌}
+use Prim.Native.Nat.{◌≤◌, ◌<◌}
 use native.Mathlib.Omega.{arith}
-use lib.ListN.{length, get_or, take}
-use borrow.Author.Rules.{rules}
+use lib.ListN.{length}
 use Rattle.theory_spec.specs.Lists.{is_some}
 use Rattle.model_spec.specs.Rules.{rule_at, run_in}
-use Rattle.model_spec.proofs.LoopLaws.{failed, passed}
 use Rattle.explain_spec.specs.Reasons.{failing_move}
 use Rattle.explain_laws.specs.How.Proposals.{held_moves}
-use Rattle.explain_laws.proofs.ProposalLoopLaws.{first_behind, behind-start, behind_go, behind_stop, behind-end}
+use Rattle.explain_laws.proofs.ProposalLoopLaws.{behind-start, behind_go, behind_stop, behind-end}
 use Rattle.explain_laws.proofs.ProposalLoopLaws.{run_goes, run_stops, whole_run, held-length, held_at}
 use Rattle.proposals.proofs.run_of.Goals as goal
 
@@ -25,8 +23,9 @@ returns-then-not-runs c =
     let s = c.args in
     let q = held_moves s.moves.now in
     let inside : c.loop-i.i < length q = omega (arith, held-length s.moves.now) in
-    let stops = run_stops s.set q c.loop-i.i inside _ ((let s = c.args in c.rule_at-rule.ensures ∙ ap (rule_at s.set) (sym (held_at s.moves.now c.loop-i.i)))) s.start.now c.loop-i.state
-    c.loop-i.invariant.1 (failed c.runs.ensures c.if-not-runs.true-raw) in
+    let read = c.rule_at-rule.ensures ∙ ap (rule_at s.set) (sym (held_at s.moves.now c.loop-i.i)) in
+    let stops = run_stops s.set q c.loop-i.i inside _ read s.start.now c.loop-i.state
+    c.loop-i.invariant.1 (sym c.runs.ensures ∙ c.if-not-runs.true) in
     (behind_stop _ (length q) c.loop-i.i _ c.loop-i.invariant.2 inside stops, λ z. absurd (omega arith))
 
 pub loop-i-preserved : goal.loop-i-preserved
@@ -34,8 +33,9 @@ loop-i-preserved c =
     let s = c.args in
     let q = held_moves s.moves.now in
     let inside : c.loop-i.i < length q = omega (arith, held-length s.moves.now) in
-    let goes = run_goes s.set q c.loop-i.i inside _ ((let s = c.args in c.rule_at-rule.ensures ∙ ap (rule_at s.set) (sym (held_at s.moves.now c.loop-i.i)))) s.start.now c.loop-i.state
-    c.loop-i.invariant.1 (passed c.runs.ensures c.if-not-runs.false-raw) in (
+    let read = c.rule_at-rule.ensures ∙ ap (rule_at s.set) (sym (held_at s.moves.now c.loop-i.i)) in
+    let goes = run_goes s.set q c.loop-i.i inside _ read s.start.now c.loop-i.state
+    c.loop-i.invariant.1 (sym c.runs.ensures ∙ c.if-not-runs.false) in (
       omega arith,
       goes ∙ ap some (sym c.after-next.ensures),
       behind_go _ (length q) c.loop-i.i _ c.loop-i.invariant.2 inside (ap (λ o. not (is_some o)) goes),

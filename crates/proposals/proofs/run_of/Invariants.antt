@@ -1,19 +1,15 @@
 -- `proposals::run_of` meets its contract. The invariant: the moves before i lead to the state, and those from i on
 -- decide which one fails first.
-use mathlib.Core.Path.{◌≡◌, refl, sym, ap, ◌∙◌}
+use mathlib.Core.Path.{◌≡◌}
 use mathlib.Core.Bool.{not}
 use mathlib.Core.Option.{some}
-use Prim.Native.Nat.{◌≤◌, ◌<◌, ◌-◌}
-use native.Mathlib.Omega.{arith}
-use lib.ListN.{length, get_or, take}
-use borrow.Author.Rules.{rules}
+use Prim.Native.Nat.{◌≤◌, ◌-◌}
+use lib.ListN.{length, take}
 use Rattle.theory_spec.specs.Lists.{is_some}
-use Rattle.model_spec.specs.Rules.{rule_at, run_in}
-use Rattle.model_spec.proofs.LoopLaws.{failed, passed}
+use Rattle.model_spec.specs.Rules.{run_in}
 use Rattle.explain_spec.specs.Reasons.{failing_move}
 use Rattle.explain_laws.specs.How.Proposals.{held_moves}
-use Rattle.explain_laws.proofs.ProposalLoopLaws.{first_behind, behind-start, behind_go, behind_stop, behind-end}
-use Rattle.explain_laws.proofs.ProposalLoopLaws.{run_goes, run_stops, whole_run, held-length, held_at}
+use Rattle.explain_laws.proofs.ProposalLoopLaws.{first_behind}
 use Rattle.proposals.proofs.run_of.Given as goal
 
 abbrev pub invariant-loop-i : goal.invariant-loop-i

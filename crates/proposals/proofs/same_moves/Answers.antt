@@ -1,11 +1,10 @@
 -- `proposals::same_moves` meets its contract. The invariant: what is left of the two sequences decides the whole.
 use mathlib.Core.Path.{◌≡◌, sym, ap}
 use mathlib.Core.Bool.{false}
-use mathlib.Core.List.{List, map}
-use Prim.Native.Nat.{ℕ, ◌≤◌, ◌-◌}
+use mathlib.Core.List.{List}
+use Prim.Native.Nat.{ℕ}
 use native.Mathlib.Omega.{arith}
-use lib.ListN.{length, drop}
-use borrow.Author.Rules.{rules}
+use lib.ListN.{length}
 use Rattle.theory_spec.specs.Lists.{same}
 use Rattle.theory_spec.proofs.ListLaws.{map_id, never_true, same_true}
 use Rattle.model_spec.proofs.LoopLaws.{same_go, same_stop, same_end}

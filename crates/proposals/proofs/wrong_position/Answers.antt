@@ -2,15 +2,14 @@
 use mathlib.Core.Path.{◌≡◌, sym, ◌∙◌}
 use mathlib.Core.Bool.{Bool, not, ◌&&◌}
 use mathlib.Core.List.{List}
-use Prim.Native.Nat.{ℕ, ◌+◌, ◌-◌, ◌≤◌, ◌<◌}
+use Prim.Native.Nat.{ℕ, ◌+◌, ◌-◌, ◌<◌}
 use native.Mathlib.Omega.{arith}
 use lib.Dec.{eqb}
 use lib.ListN.{length, get_or, take, length-take}
 use lib.Seq.{get_or-take}
-use borrow.Author.Rules.{rules}
 use Rattle.search_spec.specs.Query.{any_value}
 use Rattle.explain_spec.specs.Reasons.{is_wrong, wrong_position}
-use Rattle.explain_laws.proofs.ProposalLoopLaws.{first_behind, behind-start, behind_go, behind_stop, behind-end}
+use Rattle.explain_laws.proofs.ProposalLoopLaws.{behind-start, behind_go, behind_stop, behind-end}
 use Rattle.proposals.proofs.wrong_position.Goals as goal
 
 -- the test of the position at place i, as the loop makes it

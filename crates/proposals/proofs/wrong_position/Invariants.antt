@@ -1,16 +1,9 @@
 -- `proposals::wrong_position` meets its contract. The invariant: the positions from i on decide which is the lowest.
-use mathlib.Core.Path.{◌≡◌, sym, ◌∙◌}
-use mathlib.Core.Bool.{Bool, not, ◌&&◌}
-use mathlib.Core.List.{List}
-use Prim.Native.Nat.{ℕ, ◌+◌, ◌-◌, ◌≤◌, ◌<◌}
-use native.Mathlib.Omega.{arith}
-use lib.Dec.{eqb}
-use lib.ListN.{length, get_or, take, length-take}
-use lib.Seq.{get_or-take}
-use borrow.Author.Rules.{rules}
-use Rattle.search_spec.specs.Query.{any_value}
+use mathlib.Core.Path.{◌≡◌}
+use Prim.Native.Nat.{◌-◌, ◌≤◌}
+use lib.ListN.{length, take}
 use Rattle.explain_spec.specs.Reasons.{is_wrong, wrong_position}
-use Rattle.explain_laws.proofs.ProposalLoopLaws.{first_behind, behind-start, behind_go, behind_stop, behind-end}
+use Rattle.explain_laws.proofs.ProposalLoopLaws.{first_behind}
 use Rattle.proposals.proofs.wrong_position.Given as goal
 
 abbrev pub invariant-loop-i : goal.invariant-loop-i
