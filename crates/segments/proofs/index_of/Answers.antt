@@ -1,25 +1,26 @@
 -- `segments::index_of` meets its contract. The invariant: the index is that of the rules before i.
 use mathlib.Core.Path.{◌≡◌, refl, sym, ap, ◌∙◌}
-use Prim.Native.Nat.{◌+◌, ◌-◌, ◌*◌, ◌≤◌, ◌<◌}
+use Prim.Native.Nat.{◌+◌, ◌*◌, ◌<◌}
 use native.Mathlib.Omega.{arith}
 use lib.ListN.{length, get_or, take, length-take}
 use lib.Seq.{get_or-take, take-length}
-use borrow.Author.Rules.{rules}
 use Rattle.theory_spec.specs.How.Indices.{index_of}
-use Rattle.explain_laws.proofs.SegmentLoopLaws.{index_more, index_limit, limit_more, limit_small, limit-start}
+use Rattle.explain_laws.proofs.SegmentLoopLaws.{index_more, limit_more, limit_small, limit-start}
 use Rattle.segments.proofs.index_of.Goals as goal
 
 pub loop-i-init : goal.loop-i-init
 loop-i-init c = (omega arith, omega (arith, c.smaller-end.ensures, length-take 3 c.args.sequence.now), refl, limit-start)
 
-pub overflow_cast-number : goal.overflow_cast-number
-overflow_cast-number c = omega (arith, c.shared_slice_known-in-loop-i-1.given c.loop-i.i)
-
 pub overflow_mul-index : goal.overflow_mul-index
-overflow_mul-index c = omega (arith, (let near : c.loop-i.i < 3 = omega (arith, c.loop-i.invariant.1, length-take 3 c.args.sequence.now) in limit_small c.args.count c.loop-i.index c.loop-i.i (omega arith) near c.loop-i.invariant.3))
+overflow_mul-index c =
+    let near : c.loop-i.i < 3 = omega (arith, c.loop-i.invariant.1, length-take 3 c.args.sequence.now) in
+    omega (arith, limit_small c.args.count c.loop-i.index c.loop-i.i (omega arith) near c.loop-i.invariant.3)
 
 pub overflow_add-index : goal.overflow_add-index
-overflow_add-index c = omega (arith, (let near : c.loop-i.i < 3 = omega (arith, c.loop-i.invariant.1, length-take 3 c.args.sequence.now) in limit_small c.args.count c.loop-i.index c.loop-i.i (omega arith) near c.loop-i.invariant.3), c.shared_slice_known-in-loop-i-1.given c.loop-i.i)
+overflow_add-index c =
+    let near : c.loop-i.i < 3 = omega (arith, c.loop-i.invariant.1, length-take 3 c.args.sequence.now) in
+    let small = limit_small c.args.count c.loop-i.index c.loop-i.i (omega arith) near c.loop-i.invariant.3 in
+    omega (arith, small, c.type_inv.sequence c.loop-i.i)
 
 pub loop-i-preserved : goal.loop-i-preserved
 loop-i-preserved c =
@@ -27,7 +28,7 @@ loop-i-preserved c =
     let q = take 3 c.args.sequence.now in
     let inside : l.i < length q = omega (arith, l.invariant.1) in
     let near : l.i < 3 = omega (arith, length-take 3 c.args.sequence.now) in
-    let byte = c.shared_slice_known-in-loop-i-1.given l.i in
+    let byte = c.type_inv.sequence l.i in
     let next = index_more c.args.count q l.i inside in
     let number = get_or-take 3 c.args.sequence.now l.i 0 near in (
       omega arith,

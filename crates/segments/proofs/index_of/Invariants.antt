@@ -1,12 +1,9 @@
 -- `segments::index_of` meets its contract. The invariant: the index is that of the rules before i.
-use mathlib.Core.Path.{◌≡◌, refl, sym, ap, ◌∙◌}
-use Prim.Native.Nat.{◌+◌, ◌-◌, ◌*◌, ◌≤◌, ◌<◌}
-use native.Mathlib.Omega.{arith}
-use lib.ListN.{length, get_or, take, length-take}
-use lib.Seq.{get_or-take, take-length}
-use borrow.Author.Rules.{rules}
+use mathlib.Core.Path.{◌≡◌}
+use Prim.Native.Nat.{◌-◌, ◌≤◌}
+use lib.ListN.{length, take}
 use Rattle.theory_spec.specs.How.Indices.{index_of}
-use Rattle.explain_laws.proofs.SegmentLoopLaws.{index_more, index_limit, limit_more, limit_small, limit-start}
+use Rattle.explain_laws.proofs.SegmentLoopLaws.{index_limit}
 use Rattle.segments.proofs.index_of.Given as goal
 
 abbrev pub invariant-loop-i : goal.invariant-loop-i

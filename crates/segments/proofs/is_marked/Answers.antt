@@ -5,7 +5,6 @@ use mathlib.Core.Bool.{not}
 use native.Mathlib.Omega.{arith}
 use lib.Dec.{eqb}
 use lib.Seq.{take_all}
-use borrow.Author.Rules.{rules}
 use Rattle.theory_spec.specs.How.Indices.{index_of}
 use Rattle.tables_spec.specs.Table.{kept, entry_at}
 use Rattle.explain_laws.proofs.SegmentLoopLaws.{long_fails, short_passes}

@@ -1,13 +1,6 @@
 -- `segments::marked_segment` meets its contract. The invariant: the ends behind `end` decide which is the first.
-use mathlib.Core.Path.{◌≡◌, sym, ◌∙◌}
-use Prim.Native.Nat.{◌-◌, ◌≤◌}
+use mathlib.Core.Path.{sym, ◌∙◌}
 use native.Mathlib.Omega.{arith}
-use lib.ListN.{length}
-use borrow.Author.Rules.{rules}
-use Rattle.explain_spec.specs.Segments.{soonest_end}
-use Rattle.explain_spec.proofs.SegmentLaws.{ends_at}
-use Rattle.explain_laws.specs.How.LookedUp.{looked_up}
-use Rattle.explain_laws.proofs.ProposalLoopLaws.{first_behind}
 use Rattle.explain_laws.proofs.SegmentLoopLaws.{ends-start, ends_go, ends_stop, ends-end}
 use Rattle.segments.proofs.marked_segment.Goals as goal
 

@@ -3,10 +3,9 @@ use mathlib.Core.Path.{◌≡◌, sym, ap, ◌∙◌}
 use Prim.Native.Nat.{◌+◌, ◌-◌, ◌≤◌}
 use native.Mathlib.Omega.{arith}
 use lib.ListN.{take, drop}
-use borrow.Author.Rules.{rules}
-use Rattle.explain_spec.specs.Segments.{segment_of, shortest_at}
+use Rattle.explain_spec.specs.Segments.{segment_of}
 use Rattle.explain_laws.specs.How.LookedUp.{looked_up}
-use Rattle.explain_laws.proofs.ProposalLoopLaws.{first_behind, behind_go, behind_stop}
+use Rattle.explain_laws.proofs.ProposalLoopLaws.{behind_go, behind_stop}
 use Rattle.explain_laws.proofs.SegmentLoopLaws.{shortest-start, shortest-end}
 use Rattle.segments.proofs.shortest_at.Goals as goal
 
@@ -21,15 +20,21 @@ loop-many-init c =
 
 pub returns-then-is_marked : goal.returns-then-is_marked
 returns-then-is_marked c =
+    let s = c.args in
+    let part = lent s.moves.now s.end (c.loop-many.many + 1) (omega arith) in
+    let told = ap (looked_up s.count s.reach s.table.now) (sym part) ∙ sym c.is_marked.ensures in
     behind_stop _ c.args.end c.loop-many.many _ c.loop-many.invariant.1 (omega arith)
-    ((let s = c.args in let part = lent s.moves.now s.end (c.loop-many.many + 1) (omega arith) in ap (looked_up s.count s.reach s.table.now) (sym part) ∙ sym c.is_marked.ensures) ∙ c.if-is_marked.true)
+    (told ∙ c.if-is_marked.true)
 
 pub loop-many-preserved : goal.loop-many-preserved
-loop-many-preserved c = (
-  omega arith,
-  behind_go _ c.args.end c.loop-many.many _ c.loop-many.invariant.1 (omega arith)
-      ((let s = c.args in let part = lent s.moves.now s.end (c.loop-many.many + 1) (omega arith) in ap (looked_up s.count s.reach s.table.now) (sym part) ∙ sym c.is_marked.ensures) ∙ c.if-is_marked.false),
-)
+loop-many-preserved c =
+    let s = c.args in
+    let part = lent s.moves.now s.end (c.loop-many.many + 1) (omega arith) in
+    let told = ap (looked_up s.count s.reach s.table.now) (sym part) ∙ sym c.is_marked.ensures in (
+      omega arith,
+      behind_go _ c.args.end c.loop-many.many _ c.loop-many.invariant.1 (omega arith)
+          (told ∙ c.if-is_marked.false),
+    )
 
 pub returns : goal.returns
 returns c =

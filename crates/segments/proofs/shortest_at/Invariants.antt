@@ -1,13 +1,9 @@
 -- `segments::shortest_at` meets its contract. The invariant: the lengths above `many` decide which is the shortest.
-use mathlib.Core.Path.{◌≡◌, sym, ap, ◌∙◌}
-use Prim.Native.Nat.{◌+◌, ◌-◌, ◌≤◌}
-use native.Mathlib.Omega.{arith}
-use lib.ListN.{take, drop}
-use borrow.Author.Rules.{rules}
+use mathlib.Core.Path.{◌≡◌}
+use Prim.Native.Nat.{◌-◌, ◌≤◌}
 use Rattle.explain_spec.specs.Segments.{segment_of, shortest_at}
 use Rattle.explain_laws.specs.How.LookedUp.{looked_up}
-use Rattle.explain_laws.proofs.ProposalLoopLaws.{first_behind, behind_go, behind_stop}
-use Rattle.explain_laws.proofs.SegmentLoopLaws.{shortest-start, shortest-end}
+use Rattle.explain_laws.proofs.ProposalLoopLaws.{first_behind}
 use Rattle.segments.proofs.shortest_at.Given as goal
 
 abbrev pub invariant-loop-many : goal.invariant-loop-many

@@ -1,12 +1,11 @@
 -- `segments::three_of` meets its contract. The invariant: the first i places hold the rules of the sequence, the others
 -- still 0.
-use mathlib.Core.Path.{◌≡◌, refl, sym}
-use Prim.Native.Nat.{◌≤◌, ◌<◌, ◌-◌}
+use mathlib.Core.Path.{refl, sym}
+use Prim.Native.Nat.{◌<◌}
 use native.Mathlib.Omega.{arith}
-use lib.ListN.{length, take, length-take}
+use lib.ListN.{take, length-take}
 use lib.Seq.{get_or-take}
-use borrow.Author.Rules.{rules}
-use Rattle.model_spec.proofs.CopyLaws.{copied, copied_more, copied-padded}
+use Rattle.model_spec.proofs.CopyLaws.{copied_more, copied-padded}
 use Rattle.segments.proofs.three_of.Goals as goal
 
 pub loop-i-init : goal.loop-i-init
