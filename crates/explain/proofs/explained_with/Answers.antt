@@ -74,11 +74,12 @@ module _ (set : RuleSet) (query : Query) (q : Sequence) (passed : ProposalPassed
 
 pub reason_for-reason-requires : goal.reason_for-reason-requires
 reason_for-reason-requires c =
-    let query = (asked c.args.reach c.args.table.now c.args.start.now c.args.goal.now c.args.max_moves c.args.max_cost 0) in
-    let q = c.args.moves.now in (
-      numbered_wider c.args.set.count 31 q (few-rules c.args.set query q c.requires) c.requires.1,
-      start-length c.args.set query q c.requires,
-      goal-length c.args.set query q c.requires,
+    let s = c.args in
+    let query = asked s.reach s.table.now s.start.now s.goal.now s.max_moves s.max_cost 0 in
+    let q = s.moves.now in (
+      numbered_wider s.set.count 31 q (few-rules s.set query q c.requires) c.requires.1,
+      start-length s.set query q c.requires,
+      goal-length s.set query q c.requires,
     )
 
 pub segment_witness-witness-requires : goal.segment_witness-witness-requires
@@ -90,22 +91,18 @@ segment_witness-witness-requires c =
 
 pub overflow_cast-result : goal.overflow_cast-result
 overflow_cast-result c =
-    let query = (asked c.args.reach c.args.table.now c.args.start.now c.args.goal.now c.args.max_moves c.args.max_cost 0) in
-    let q = c.args.moves.now in
-    let told = ap (λ (r : Reason). r.place)
-    (c.reason_for-reason.ensures c.args.reach c.args.table.now 0) in
-    omega (
-      arith,
-      told,
-      place_limit c.args.set query q c.args.plan.now c.requires.0.0.1
-          (goal-length c.args.set query q c.requires),
-    )
+    let s = c.args in
+    let query = asked s.reach s.table.now s.start.now s.goal.now s.max_moves s.max_cost 0 in
+    let q = s.moves.now in
+    let told = ap (λ (r : Reason). r.place) (c.reason_for-reason.ensures s.reach s.table.now 0) in
+    omega (arith, told, place_limit s.set query q s.plan.now c.requires.0.0.1 (goal-length s.set query q c.requires))
 
 pub returns : goal.returns
-returns c =
-    λ limit is_plan.
-    parts c.args.set (asked c.args.reach c.args.table.now c.args.start.now c.args.goal.now c.args.max_moves c.args.max_cost limit) c.args.moves.now c.requires c.args.outcome c.args.plan.now
-    c.reason_for-reason.result c.marked_segment-segment.result c.segment_witness-witness.result
-    is_plan (c.reason_for-reason.ensures c.args.reach c.args.table.now limit)
-    c.marked_segment-segment.ensures.0 c.marked_segment-segment.ensures.1
-    c.segment_witness-witness.ensures.0 c.segment_witness-witness.ensures.1
+returns c limit is_plan =
+    let s = c.args in
+    let query = asked s.reach s.table.now s.start.now s.goal.now s.max_moves s.max_cost limit in
+    let segment = c.marked_segment-segment in
+    let witness = c.segment_witness-witness in
+    parts s.set query s.moves.now c.requires s.outcome s.plan.now c.reason_for-reason.result segment.result
+    witness.result is_plan (c.reason_for-reason.ensures s.reach s.table.now limit) segment.ensures.0 segment.ensures.1
+    witness.ensures.0 witness.ensures.1

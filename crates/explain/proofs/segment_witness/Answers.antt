@@ -5,7 +5,6 @@ use Prim.Native.Nat.{ℕ, ◌-◌, ◌≤◌}
 use native.Mathlib.Omega.{arith}
 use lib.ListN.{length, take, drop}
 use borrow.Author.Tests.{eq-eqb, ne_eqb}
-use borrow.Author.Rules.{rules}
 use Rattle.theory_spec.specs.Lists.{padded}
 use Rattle.theory_spec.specs.How.Indices.{index_of}
 use Rattle.tables_spec.specs.Table.{entry_at}
