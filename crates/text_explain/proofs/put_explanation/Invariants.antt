@@ -1,14 +1,9 @@
 -- `text_explain::put_explanation` meets its contract. The invariant: the first i bytes of the buffer are those of the
 -- explanation, the others still 0.
-use mathlib.Core.Path.{◌≡◌, refl, sym, ap, ◌∙◌}
+use mathlib.Core.Path.{◌≡◌}
 use Prim.Native.Nat.{◌-◌, ◌≤◌}
-use native.Mathlib.Omega.{arith}
-use lib.ListN.{length, length-set}
-use borrow.Author.Rules.{rules}
-use Rattle.theory_spec.specs.Lists.{padded}
-use Rattle.model_spec.proofs.CopyLaws.{copied, copied_more, copied-padded}
-use Rattle.planner_spec.proofs.ExplanationBytesLaws.{bytes_19, buffer_filled, buffer-short}
-use Rattle.planner_spec.proofs.ExplanationShape.{witness-places}
+use lib.ListN.{length}
+use Rattle.model_spec.proofs.CopyLaws.{copied}
 use Rattle.text_explain.proofs.put_explanation.Given as goal
 
 abbrev pub invariant-loop-i : goal.invariant-loop-i

@@ -5,7 +5,6 @@ use mathlib.Core.Logic.{◌≢◌}
 use mathlib.Core.List.{List}
 use Prim.Native.Nat.{ℕ}
 use lib.ListN.{length, replicate}
-use borrow.Author.Rules.{rules}
 use Rattle.model_spec.proofs.BufferLaws.{filled-whole}
 use Rattle.files_spec.specs.Reading.{reading}
 use Rattle.files_spec.specs.declared.Reading.{Reading}
@@ -38,13 +37,19 @@ module _ (text : List ℕ) (query : Query) (room : ℕ) (file : Reading) (e : fi
 
 pub returns-then-refusal-ne0 : goal.returns-then-refusal-ne0
 returns-then-refusal-ne0 c =
-    let blank = c.fill_from.ensures ∙ filled-whole no_move c.args.plan.now in
-    text-found c.args.text.now (let a = c.args in asked a.reach a.table.now a.start.now a.goal.now a.max_moves a.max_cost a.step_limit) (length c.args.plan.now) _
-    (refused c.args.text.now (let a = c.args in asked a.reach a.table.now a.start.now a.goal.now a.max_moves a.max_cost a.step_limit) (length c.args.plan.now) c.read-file.result c.read-file.ensures.0
-    c.if-refusal-ne0.true _ blank)
+    let a = c.args in
+    let query = asked a.reach a.table.now a.start.now a.goal.now a.max_moves a.max_cost a.step_limit in
+    let room = length a.plan.now in
+    let text = a.text.now in
+    let blank = c.fill_from.ensures ∙ filled-whole no_move a.plan.now in
+    text-found text query room _
+    (refused text query room c.read-file.result c.read-file.ensures.0 c.if-refusal-ne0.true _ blank)
 
 pub returns : goal.returns
 returns c =
-    text-found c.args.text.now (let a = c.args in asked a.reach a.table.now a.start.now a.goal.now a.max_moves a.max_cost a.step_limit) (length c.args.plan.now) _
-    (read c.args.text.now (let a = c.args in asked a.reach a.table.now a.start.now a.goal.now a.max_moves a.max_cost a.step_limit) (length c.args.plan.now) c.read-file.result c.read-file.ensures.0
-    c.if-refusal-ne0.false _ c.search.ensures.0)
+    let a = c.args in
+    let query = asked a.reach a.table.now a.start.now a.goal.now a.max_moves a.max_cost a.step_limit in
+    let room = length a.plan.now in
+    let text = a.text.now in
+    text-found text query room _
+    (read text query room c.read-file.result c.read-file.ensures.0 c.if-refusal-ne0.false _ c.search.ensures.0)
