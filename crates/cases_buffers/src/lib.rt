@@ -14,6 +14,7 @@ pub fn put_byte(place: usize, value: usize, bytes: &mut [u8])
 }
 
 // Puts an entry at an index of a table, if it has that index, low byte first.
+#[tactic(auto, unfolding(cases_laws::specs::How::Texts::with_entry))]
 pub fn put_entry(index: usize, value: usize, table: &mut [u8])
     ensures { table.new ≡ with_entry index value table.old }
 {

@@ -3,14 +3,13 @@
 
 ghost use Rattle.std.specs.Prelude.{◌≡◌, map, ◌≤◌, min, length};
 ghost use Rattle.std.proofs.Math.Seq.{paste};
-ghost use Rattle.cases_laws.specs.How.Texts.{line_fed, up_to, behind, with_digit, number_of};
-
-use bytes::scan::find;
+ghost use Rattle.cases_laws.specs.How.Texts.{line_fed, index_of, up_to, behind, with_digit, number_of};
 
 // The largest number.
 const LARGEST: usize = 18446744073709551615;
 
 // A byte of a rule file that is written on one line: `/` stands for a line feed.
+#[tactic(auto, unfolding(cases_laws::specs::How::Texts::line_fed))]
 fn line_fed(byte: u8) -> u8
     ensures { result ≡ line_fed byte }
 {
@@ -37,19 +36,29 @@ pub fn decode(input: &[u8], text: &mut [u8]) -> usize
     count
 }
 
+// The first place of a byte in a text; the text's length where there is none.
+pub fn find(byte: u8, text: &[u8]) -> usize
+    ensures bound { result ≤ length text.now }
+    ensures value { result ≡ index_of byte text.now }
+{
+    text.iter().position(|b| *b == byte).unwrap_or(text.len())
+}
+
 // The part of a text up to the first place of a byte; all of it where there is none.
+#[tactic(auto, unfolding(cases_laws::specs::How::Texts::up_to))]
 pub fn up_to(byte: u8, text: &[u8]) -> &[u8]
     ensures { result.now ≡ up_to byte text.now }
 {
-    let size = find(text, 0, text.len(), byte);
+    let size = find(byte, text);
     &text[..size]
 }
 
 // What follows the first place of a byte in a text; nothing where there is none.
+#[tactic(auto, unfolding(cases_laws::specs::How::Texts::behind))]
 pub fn behind(byte: u8, text: &[u8]) -> &[u8]
     ensures { result.now ≡ behind byte text.now }
 {
-    let place = find(text, 0, text.len(), byte);
+    let place = find(byte, text);
     if text.len() <= place {
         return &text[place..];
     }
@@ -57,6 +66,7 @@ pub fn behind(byte: u8, text: &[u8]) -> &[u8]
 }
 
 // A number with one digit more; the largest one where that is too large.
+#[tactic(auto, unfolding(cases_laws::specs::How::Texts::with_digit))]
 fn with_digit(number: usize, digit: u8) -> usize
     ensures { result ≡ with_digit digit number }
 {
@@ -72,6 +82,7 @@ fn with_digit(number: usize, digit: u8) -> usize
 }
 
 // The number of a text: each byte is the digit of its low four bits; the largest number where that is too large.
+#[tactic(auto, unfolding(cases_laws::specs::How::Texts::number_of))]
 pub fn number_of(text: &[u8]) -> usize
     ensures { result ≡ number_of text.now }
 {

@@ -7,10 +7,14 @@ use native.Mathlib.Nat.{min-eq_left, min-eq_right}
 use native.Mathlib.Numerals.{add-one}
 use native.Mathlib.Omega.{arith}
 use lib.ListN.{length, get_or, set, take, drop, length-map, length-drop, drop_of_length-le, get_or-map}
-use lib.Seq.{take_all, take-length, drop-cons, paste, paste-suc}
+use lib.Seq.{take_all, drop-cons, paste, paste-suc}
+use Rattle.std.specs.List.{position}
+use Rattle.std.specs.Option.{unwrap_or}
+use Rattle.std.proofs.Common.{not, cond, eqb, ltb, Some, None}
+use Rattle.std.proofs.lemmas.Bool.Decides.{nat_tests}
+use Rattle.std.proofs.lemmas.List.Sums.{prefix_len-le-length}
 use Rattle.theory_spec.specs.How.Folds.{fold_over}
-use Rattle.bytes.specs.Bytes.{index_of, slice}
-use Rattle.cases_laws.specs.How.Texts.{line_fed, behind, largest, with_digit, number_of}
+use Rattle.cases_laws.specs.How.Texts.{line_fed, index_of, behind, largest, with_digit, number_of}
 
 -- one byte more of a rule file
 pub decoded_more : (old input : List ℕ) (i : ℕ) (l : List ℕ) (x : ℕ) → i < length old → i < length input
@@ -23,11 +27,12 @@ decoded_more old input i l x h k e v =
     rw (e, v ∙ sym (get_or-map line_fed input i 0), add-one i)
     (subst (λ j. set (paste old 0 new i) j (get_or new i (line_fed 0)) ≡ paste old 0 new (suc i)) front turn)
 
--- the first place in the whole of a text
-pub place-whole : (byte : ℕ) (text : List ℕ) (r : ℕ) → r ≡ 0 + index_of byte (slice 0 (length text) text)
-    → r ≡ index_of byte text
-unfolding slice
-place-whole byte text r e = omega (arith, e, ap (index_of byte) (take-length text))
+-- the first place, as the code asks for it
+pub place_asked : (byte : ℕ) (text : List ℕ) → unwrap_or (position (λ b. eqb b byte) text) (length text) ≡ index_of byte text
+place_asked byte text = found (index_of byte text) (length text) (prefix_len-le-length (λ b. not (eqb b byte)) text)
+  where
+    found : (n m : ℕ) → n ≤ m → unwrap_or (cond (ltb n m) (Some n) None) m ≡ n
+    found n m h = grind (arith, nat_tests)
 
 -- the part from a place on, as the code takes it
 tail : (text : List ℕ) (n : ℕ) → take (length text - n) (drop n text) ≡ drop n text

@@ -1,11 +1,15 @@
 -- What the texts of the case programs stand for: rule files on one line, fields, and numbers.
 use Rattle.std.specs.Prelude.{cond, List, ℕ, suc, min, ◌+◌, ◌*◌, ◌/◌, ◌%◌, eqb, leb, take, drop, set}
+use Rattle.std.specs.List.{position_or_len}
 use Rattle.theory_spec.specs.How.Folds.{fold_over}
-use Rattle.bytes.specs.Bytes.{index_of}
 
 -- a byte of a rule file that is written on one line: `/` stands for a line feed
 unfoldable pub line_fed : ℕ → ℕ
 line_fed byte = cond (eqb byte 47) 10 byte
+
+-- the first place of a byte in a text; the text's length where there is none
+abbrev pub index_of : ℕ → List ℕ → ℕ
+index_of byte text = position_or_len (λ b. eqb b byte) text
 
 -- the part of a text up to the first place of a byte; all of it where there is none
 unfoldable pub up_to : ℕ → List ℕ → List ℕ
