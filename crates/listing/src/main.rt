@@ -5,7 +5,9 @@ ghost use Rattle.std.specs.Prelude.{ℕ, ◌≤◌, ◌≡◌, List, length, tak
 ghost use Rattle.io.specs.Counts.{IsPrefixLen};
 ghost use Rattle.report_spec.specs.Listing.{listing};
 
-use libc::{STDIN_FILENO, STDOUT_FILENO};
+use standard_input::{large_buffer, read_full};
+use std::io;
+use std::io::Read;
 
 // No listing has more bytes, by the law `listing_bound`.
 const LISTING_SIZE: usize = 110139;
@@ -28,28 +30,32 @@ fn listing_buffer() -> [u8; LISTING_SIZE] {
 }
 
 // Reads on, and answers whether more may follow.
-fn skip_some() -> bool {
-    let mut rest = io::large_buffer();
-    io::read_full(STDIN_FILENO, &mut rest) == 65536
+fn skip_some(input: &mut impl Read) -> io::Result<bool> {
+    let mut rest = large_buffer();
+    Ok(read_full(input, &mut rest)? == 65536)
 }
 
-// Reads the rest of the input, so that whoever writes it can end. Nothing says that an input ends, so the loop counts
-// its turns down, from a number that no run uses up.
-fn skip_rest() {
-    let mut turns = u64::MAX;
-    while turns > 0 && skip_some() {
-        turns -= 1;
+// Reads the rest of the input, so that whoever writes it can end. Nothing says that an input ends, so the loop has a
+// number of turns that no run uses up.
+fn skip_rest(input: &mut impl Read) -> io::Result<()> {
+    for _ in 0..u64::MAX {
+        if !skip_some(input)? {
+            break;
+        }
     }
+    Ok(())
 }
 
 // The input's first 65,536 bytes are enough, by `listed`.
-fn main() {
-    let mut text = io::large_buffer();
-    let n = io::read_full(STDIN_FILENO, &mut text);
+fn main(rt: HostRuntime) -> io::Result<()> {
+    let mut input = rt.stdin();
+    let mut text = large_buffer();
+    let n = read_full(&mut input, &mut text)?;
     let mut out = listing_buffer();
     let size = listed(&text[..n], &mut out);
-    io::write_all(STDOUT_FILENO, &out[..size]);
+    rt.write_all(&out[..size])?;
     if n == 65536 {
-        skip_rest();
+        skip_rest(&mut input)?;
     }
+    Ok(())
 }
