@@ -11,23 +11,23 @@
 
 ghost use Rattle.std.specs.Prelude.{◌≤◌, length};
 
-use bytes::scan::find;
-use cases_common::decode;
-use libc::{STDIN_FILENO, STDOUT_FILENO};
+use cases_common::{decode, find};
 use macros_spec::{Macro, MacroAnswer, Touched, Vectors};
 use model_spec::{FIRST_VARIABLE, RuleSet};
 use moves::{cost_of, rule_at};
+use standard_input::{large_buffer, read_full};
+use std::io;
 
-fn print(text: &[u8]) {
-    io::write_all(STDOUT_FILENO, text);
+fn print(rt: &impl Print, text: &[u8]) -> io::Result<()> {
+    rt.write_all(text)
 }
 
-fn print_number(n: u64) {
-    io::print_decimal(STDOUT_FILENO, n);
+fn print_number(rt: &impl Print, n: u64) -> io::Result<()> {
+    rt.print(n)
 }
 
-fn print_byte(n: u8) {
-    print_number(n as u64);
+fn print_byte(rt: &impl Print, n: u8) -> io::Result<()> {
+    print_number(rt, n as u64)
 }
 
 // A number below 256 with one digit more; a comma leaves it as it is.
@@ -90,62 +90,64 @@ fn blank_from(place: u8, found: Macro) -> bool {
 }
 
 // An entry, in the notation of a rule file.
-fn print_entry(entry: u8) {
+fn print_entry(rt: &impl Print, entry: u8) -> io::Result<()> {
     if entry < FIRST_VARIABLE {
-        print_byte(entry);
-        return;
+        return print_byte(rt, entry);
     }
-    print(b"x");
-    print_byte(entry - 15);
+    print(rt, b"x")?;
+    print_byte(rt, entry - 15)
 }
 
 // The entries of the positions, with commas between.
-fn print_entries(positions: u8, entries: &[u8]) {
+fn print_entries(rt: &impl Print, positions: u8, entries: &[u8]) -> io::Result<()> {
     for i in 0..entries.len() {
         if i < positions as usize {
             if 0 < i {
-                print(b",");
+                print(rt, b",")?;
             }
-            print_entry(entries[i]);
+            print_entry(rt, entries[i])?;
         }
     }
+    Ok(())
 }
 
 // A macro, and whether something stands in its unused places.
-fn print_lines(positions: u8, found: Macro) {
+fn print_lines(rt: &impl Print, positions: u8, found: Macro) -> io::Result<()> {
     let condition = found.condition;
     let effect = found.effect;
-    print(b"  if=");
-    print_entries(positions, &condition);
-    print(b"  then=");
-    print_entries(positions, &effect);
-    print(b"  cost=");
-    print_number(found.cost as u64);
+    print(rt, b"  if=")?;
+    print_entries(rt, positions, &condition)?;
+    print(rt, b"  then=")?;
+    print_entries(rt, positions, &effect)?;
+    print(rt, b"  cost=")?;
+    print_number(rt, found.cost as u64)?;
     if !blank_from(positions, found) {
-        print(b"  unused places not 0");
+        print(rt, b"  unused places not 0")?;
     }
+    Ok(())
 }
 
 // The positions of a set, in rising order, with commas between.
-fn print_positions(set: u16) {
+fn print_positions(rt: &impl Print, set: u16) -> io::Result<()> {
     let mut rest = set;
     for i in 0..16u8 {
         if rest % 2 == 1 {
-            print_byte(i + 1);
+            print_byte(rt, i + 1)?;
             if 1 < rest {
-                print(b",");
+                print(rt, b",")?;
             }
         }
         rest = rest / 2;
     }
+    Ok(())
 }
 
 // The positions that are read and written.
-fn print_touched(found: Touched) {
-    print(b"  reads=");
-    print_positions(found.reads);
-    print(b"  writes=");
-    print_positions(found.writes);
+fn print_touched(rt: &impl Print, found: Touched) -> io::Result<()> {
+    print(rt, b"  reads=")?;
+    print_positions(rt, found.reads)?;
+    print(rt, b"  writes=")?;
+    print_positions(rt, found.writes)
 }
 
 // Whether a macro and its two sets are zeros throughout.
@@ -163,26 +165,24 @@ fn is_blank(found: Macro, sets: Touched) -> bool {
 }
 
 // Whether a refusal is zeros throughout.
-fn print_blank(answer: MacroAnswer) {
+fn print_blank(rt: &impl Print, answer: MacroAnswer) -> io::Result<()> {
     if is_blank(answer.result, answer.touched) {
-        print(b" zeros");
-        return;
+        return print(rt, b" zeros");
     }
-    print(b" not zeros");
+    print(rt, b" not zeros")
 }
 
 // The macro of the moves of a text.
-fn print_macro(set: RuleSet, text: &[u8]) {
+fn print_macro(rt: &impl Print, set: RuleSet, text: &[u8]) -> io::Result<()> {
     let mut moves = [0u8; 64];
     let count = parse_moves(text, &mut moves);
     let answer = macros::macro_of(set, &moves[0..count]);
-    print_byte(answer.outcome);
+    print_byte(rt, answer.outcome)?;
     if answer.outcome == 0 {
-        print_lines(set.positions, answer.result);
-        print_touched(answer.touched);
-        return;
+        print_lines(rt, set.positions, answer.result)?;
+        return print_touched(rt, answer.touched);
     }
-    print_blank(answer);
+    print_blank(rt, answer)
 }
 
 // The vectors of a sequence.
@@ -201,111 +201,110 @@ fn in_16_bits(cost: u32) -> u16 {
 }
 
 // Whether a sequence is redundant with another.
-fn print_redundancy(set: RuleSet, moves: &[u8], witness: &[u8]) {
+fn print_redundancy(rt: &impl Print, set: RuleSet, moves: &[u8], witness: &[u8]) -> io::Result<()> {
     let sequence = composed(set, moves);
     let cost = in_16_bits(cost_of(set, moves));
     if redundancy::is_redundant(set, sequence, cost, witness) {
-        print(b"yes");
-        return;
+        return print(rt, b"yes");
     }
-    print(b"no");
+    print(rt, b"no")
 }
 
 // The same of the two sequences of a text, with ` by ` between.
-fn print_compared(set: RuleSet, text: &[u8]) {
+fn print_compared(rt: &impl Print, set: RuleSet, text: &[u8]) -> io::Result<()> {
     let mut moves = [0u8; 64];
     let mut witness = [0u8; 64];
-    let size = find(text, 0, text.len(), b' ');
+    let size = find(b' ', text);
     let rest = &text[size..];
     if rest.len() < 4 {
-        return;
+        return Ok(());
     }
     let count = parse_moves(&text[0..size], &mut moves);
     let other = parse_moves(&rest[4..], &mut witness);
-    print_redundancy(set, &moves[0..count], &witness[0..other]);
+    print_redundancy(rt, set, &moves[0..count], &witness[0..other])
 }
 
 // The set of a text, with its outcome printed.
-fn read_set(text: &[u8]) -> RuleSet {
-    let mut file = io::large_buffer();
+fn read_set(rt: &impl Print, text: &[u8]) -> io::Result<RuleSet> {
+    let mut file = large_buffer();
     let size = decode(text, &mut file);
     let reading = reader::read(&file[0..size]);
-    print_byte(reading.outcome);
-    reading.set
+    print_byte(rt, reading.outcome)?;
+    Ok(reading.set)
 }
 
 // The set with two of its numbers changed, and whether it is valid printed.
-fn changed_set(set: RuleSet, text: &[u8]) -> RuleSet {
+fn changed_set(rt: &impl Print, set: RuleSet, text: &[u8]) -> io::Result<RuleSet> {
     let mut numbers = [0u8; 2];
     let mut other = set;
     parse(text, &mut numbers);
     other.positions = numbers[0];
     other.count = numbers[1];
     if validity::is_valid(other) {
-        print(b"valid");
+        print(rt, b"valid")?;
     } else {
-        print(b"not valid");
+        print(rt, b"not valid")?;
     }
-    other
+    Ok(other)
 }
 
 // The answer to a case, by its letter; gives the set of the next case.
-fn answer(set: RuleSet, verb: u8, text: &[u8]) -> RuleSet {
+fn answer(rt: &impl Print, set: RuleSet, verb: u8, text: &[u8]) -> io::Result<RuleSet> {
     if verb == b'f' {
-        return read_set(text);
+        return read_set(rt, text);
     }
     if verb == b's' {
-        return changed_set(set, text);
+        return changed_set(rt, set, text);
     }
     if verb == b'm' {
-        print_macro(set, text);
+        print_macro(rt, set, text)?;
     }
     if verb == b'w' {
-        print_compared(set, text);
+        print_compared(rt, set, text)?;
     }
-    set
+    Ok(set)
 }
 
 // The line, cut at 120 bytes.
-fn print_line(line: &[u8]) {
+fn print_line(rt: &impl Print, line: &[u8]) -> io::Result<()> {
     if line.len() <= 120 {
-        print(line);
-        return;
+        return print(rt, line);
     }
-    print(&line[0..120]);
-    print(b"..");
+    print(rt, &line[0..120])?;
+    print(rt, b"..")
 }
 
 // One case, or a heading, on a line of the input; gives the set of the next line.
-fn run(set: RuleSet, line: &[u8]) -> RuleSet {
+fn run(rt: &impl Print, set: RuleSet, line: &[u8]) -> io::Result<RuleSet> {
     if line.len() < 2 {
-        return set;
+        return Ok(set);
     }
     let mut next = set;
-    print_line(line);
+    print_line(rt, line)?;
     if line[0] != b'#' {
-        print(b": ");
-        next = answer(set, line[0], &line[2..]);
+        print(rt, b": ")?;
+        next = answer(rt, set, line[0], &line[2..])?;
     }
-    print(b"\n");
-    next
+    print(rt, b"\n")?;
+    Ok(next)
 }
 
 // The cases of all lines; the set of the first is the empty one.
-fn run_lines(input: &[u8]) {
+fn run_lines(rt: &impl Print, input: &[u8]) -> io::Result<()> {
     let empty = reader::read(b"");
     let mut set = empty.set;
     let mut from: usize = 0;
     while from < input.len() {
         let rest = &input[from..];
-        let size = find(rest, 0, rest.len(), b'\n');
-        set = run(set, &rest[0..size]);
+        let size = find(b'\n', rest);
+        set = run(rt, set, &rest[0..size])?;
         from += size + 1;
     }
+    Ok(())
 }
 
-fn main() {
-    let mut input = io::large_buffer();
-    let n = io::read_full(STDIN_FILENO, &mut input);
-    run_lines(&input[..n]);
+fn main(rt: HostRuntime) -> io::Result<()> {
+    let mut input = large_buffer();
+    let n = read_full(&mut rt.stdin(), &mut input)?;
+    run_lines(&rt, &input[..n])
 }
