@@ -27,24 +27,24 @@
 ghost use Rattle.std.specs.Prelude.{◌*◌, ◌≤◌, ◌<◌, length};
 
 use buffers::fill_from;
-use bytes::scan::find;
 use cases_buffers::{put_byte, put_entry};
-use cases_common::{behind, decode, number_of, up_to};
-use libc::{STDIN_FILENO, STDOUT_FILENO};
+use cases_common::{behind, decode, find, number_of, up_to};
 use macros_spec::Touched;
 use model_spec::RuleSet;
+use standard_input::{large_buffer, read_full};
+use std::io;
 use tables::{KEPT, entry_at};
 
-fn print(text: &[u8]) {
-    io::write_all(STDOUT_FILENO, text);
+fn print(rt: &impl Print, text: &[u8]) -> io::Result<()> {
+    rt.write_all(text)
 }
 
-fn print_number(n: u64) {
-    io::print_decimal(STDOUT_FILENO, n);
+fn print_number(rt: &impl Print, n: u64) -> io::Result<()> {
+    rt.print(n)
 }
 
-fn print_byte(n: u8) {
-    print_number(n as u64);
+fn print_byte(rt: &impl Print, n: u8) -> io::Result<()> {
+    print_number(rt, n as u64)
 }
 
 // Whether a table is zeros throughout.
@@ -73,7 +73,7 @@ fn put_all(entries: bool, text: &[u8], table: &mut [u8]) {
     let mut from: usize = 0;
     while from < text.len() {
         let rest = &text[from..];
-        let size = find(rest, 0, rest.len(), b',');
+        let size = find(b',', rest);
         put(entries, &rest[0..size], table);
         from += size + 1;
     }
@@ -91,54 +91,56 @@ fn shorter(count: u8, index: usize) -> usize {
 }
 
 // The last rule of the sequence of an index, if it has one.
-fn print_last(count: u8, index: usize) {
+fn print_last(rt: &impl Print, count: u8, index: usize) -> io::Result<()> {
     if index == 0 {
-        return;
+        return Ok(());
     }
     if count == 0 {
-        return;
+        return Ok(());
     }
     let rule = (index - 1) % count as usize + 1;
-    print_number(rule as u64);
+    print_number(rt, rule as u64)
 }
 
 // The rules of a sequence but for its last, each with a comma.
-fn print_front(count: u8, index: usize) {
+fn print_front(rt: &impl Print, count: u8, index: usize) -> io::Result<()> {
     let front = shorter(count, index);
     let first = shorter(count, front);
     if first != 0 {
-        print_last(count, first);
-        print(b",");
+        print_last(rt, count, first)?;
+        print(rt, b",")?;
     }
     if front != 0 {
-        print_last(count, front);
-        print(b",");
+        print_last(rt, count, front)?;
+        print(rt, b",")?;
     }
+    Ok(())
 }
 
 // The sequence of an index, of at most three rules.
-fn print_sequence(count: u8, index: usize) {
-    print_front(count, index);
-    print_last(count, index);
+fn print_sequence(rt: &impl Print, count: u8, index: usize) -> io::Result<()> {
+    print_front(rt, count, index)?;
+    print_last(rt, count, index)
 }
 
 // A mark, if the entry is one.
-fn print_mark(count: u8, index: usize, entry: usize) {
+fn print_mark(rt: &impl Print, count: u8, index: usize, entry: usize) -> io::Result<()> {
     if entry == KEPT {
-        return;
+        return Ok(());
     }
-    print(b"; ");
-    print_sequence(count, index);
-    print(b" for ");
-    print_sequence(count, entry);
+    print(rt, b"; ")?;
+    print_sequence(rt, count, index)?;
+    print(rt, b" for ")?;
+    print_sequence(rt, count, entry)
 }
 
 // All marks of a table, in order.
-fn print_marks(count: u8, table: &[u8]) {
+fn print_marks(rt: &impl Print, count: u8, table: &[u8]) -> io::Result<()> {
     for i in 0..table.len() / 2 {
         let entry = entry_at(table, i);
-        print_mark(count, i, entry);
+        print_mark(rt, count, i, entry)?;
     }
+    Ok(())
 }
 
 // 1 for a mark, 0 for an entry that keeps its sequence.
@@ -188,77 +190,94 @@ fn sum_of(table: &[u8]) -> usize
 }
 
 // The marks of a table, or their number and their sum, and how many entries are kept.
-fn print_table(count: u8, table: &[u8])
+fn print_table(rt: &impl Print, count: u8, table: &[u8]) -> io::Result<()>
     requires { length table.now ≤ 65536 }
 {
     let marks = marks_of(table);
     if marks <= 60 {
-        print_marks(count, table);
+        print_marks(rt, count, table)?;
     } else {
-        print(b"; ");
-        print_number(marks as u64);
-        print(b" marks, sum ");
-        print_number(sum_of(table) as u64);
+        print(rt, b"; ")?;
+        print_number(rt, marks as u64)?;
+        print(rt, b" marks, sum ")?;
+        print_number(rt, sum_of(table) as u64)?;
     }
-    print(b"; ");
-    print_number((table.len() / 2 - marks) as u64);
-    print(b" kept");
+    print(rt, b"; ")?;
+    print_number(rt, (table.len() / 2 - marks) as u64)?;
+    print(rt, b" kept")
 }
 
 // What a refused build leaves.
-fn print_refused(table: &[u8]) {
+fn print_refused(rt: &impl Print, table: &[u8]) -> io::Result<()> {
     if zeros(table) {
-        print(b" zeros");
-        return;
+        return print(rt, b" zeros");
     }
-    print(b" not zeros");
+    print(rt, b" not zeros")
 }
 
 // The positions that the marked sequences read and write, as numbers.
-fn print_touched(touched: Touched) {
-    print(b"; reads ");
-    print_number(touched.reads as u64);
-    print(b"; writes ");
-    print_number(touched.writes as u64);
+fn print_touched(rt: &impl Print, touched: Touched) -> io::Result<()> {
+    print(rt, b"; reads ")?;
+    print_number(rt, touched.reads as u64)?;
+    print(rt, b"; writes ")?;
+    print_number(rt, touched.writes as u64)
 }
 
 // What a check gives.
-fn print_check(set: RuleSet, reach: usize, table: &[u8]) {
+fn print_check(rt: &impl Print, set: RuleSet, reach: usize, table: &[u8]) -> io::Result<()> {
     let answer = checker::check_table(set, reach, table);
-    print_byte(answer.outcome);
-    print_touched(answer.touched);
+    print_byte(rt, answer.outcome)?;
+    print_touched(rt, answer.touched)
 }
 
 // Builds a table over bytes of 170.
-fn print_built(set: RuleSet, reach: usize, table: &mut [u8])
+fn print_built(rt: &impl Print, set: RuleSet, reach: usize, table: &mut [u8]) -> io::Result<()>
     requires { length table.old ≤ 65536 }
 {
     fill_from(table, 0, 170);
     let answer = builder::build_table(set, reach, table);
-    print_byte(answer.outcome);
+    print_byte(rt, answer.outcome)?;
     if answer.outcome == 0 {
-        print_table(set.count, table);
+        print_table(rt, set.count, table)?;
     } else {
-        print_refused(table);
+        print_refused(rt, table)?;
     }
-    print_touched(answer.touched);
+    print_touched(rt, answer.touched)
 }
 
 // Checks a table of these entries, the others kept.
-fn print_checked(set: RuleSet, reach: usize, entries: &[u8], table: &mut [u8]) {
+fn print_checked(
+    rt: &impl Print,
+    set: RuleSet,
+    reach: usize,
+    entries: &[u8],
+    table: &mut [u8],
+) -> io::Result<()> {
     fill_from(table, 0, 255);
     put_all(true, entries, table);
-    print_check(set, reach, table);
+    print_check(rt, set, reach, table)
 }
 
 // Checks the table with these bytes changed.
-fn print_changed(set: RuleSet, reach: usize, bytes: &[u8], table: &mut [u8]) {
+fn print_changed(
+    rt: &impl Print,
+    set: RuleSet,
+    reach: usize,
+    bytes: &[u8],
+    table: &mut [u8],
+) -> io::Result<()> {
     put_all(false, bytes, table);
-    print_check(set, reach, table);
+    print_check(rt, set, reach, table)
 }
 
 // The answer to `b`, `c` or `k`, on a front part of the table.
-fn run_table(set: RuleSet, verb: u8, text: &[u8], table: &mut [u8])
+fn run_table(
+    rt: &impl Print,
+    set: RuleSet,
+    verb: u8,
+    text: &[u8],
+    table: &mut [u8],
+) -> io::Result<()>
     requires { length table.old ≤ 65536 }
 {
     let reach = number_of(up_to(b' ', text));
@@ -266,106 +285,108 @@ fn run_table(set: RuleSet, verb: u8, text: &[u8], table: &mut [u8])
     let size = number_of(up_to(b' ', fields));
     let values = behind(b' ', fields);
     if table.len() < size {
-        return;
+        return Ok(());
     }
     if verb == b'b' {
-        print_built(set, reach, &mut table[0..size]);
-        return;
+        return print_built(rt, set, reach, &mut table[0..size]);
     }
     if verb == b'c' {
-        print_checked(set, reach, values, &mut table[0..size]);
-        return;
+        return print_checked(rt, set, reach, values, &mut table[0..size]);
     }
-    print_changed(set, reach, values, &mut table[0..size]);
+    print_changed(rt, set, reach, values, &mut table[0..size])
 }
 
 // The sequence of an index, and its entry.
-fn print_entry(count: u8, text: &[u8], table: &[u8]) {
+fn print_entry(rt: &impl Print, count: u8, text: &[u8], table: &[u8]) -> io::Result<()> {
     let index = number_of(text);
     let entry = entry_at(table, index);
-    print_sequence(count, index);
+    print_sequence(rt, count, index)?;
     if entry == KEPT {
-        print(b" kept");
-        return;
+        return print(rt, b" kept");
     }
-    print(b" for ");
-    print_sequence(count, entry);
-    print(b", index ");
-    print_number(entry as u64);
+    print(rt, b" for ")?;
+    print_sequence(rt, count, entry)?;
+    print(rt, b", index ")?;
+    print_number(rt, entry as u64)
 }
 
 // The set of a text, with its outcome printed.
-fn read_set(text: &[u8]) -> RuleSet {
-    let mut file = io::large_buffer();
+fn read_set(rt: &impl Print, text: &[u8]) -> io::Result<RuleSet> {
+    let mut file = large_buffer();
     let size = decode(text, &mut file);
     let reading = reader::read(&file[0..size]);
-    print_byte(reading.outcome);
-    reading.set
+    print_byte(rt, reading.outcome)?;
+    Ok(reading.set)
 }
 
 // The set with two of its numbers changed, and whether it is valid printed.
-fn changed_set(set: RuleSet, text: &[u8]) -> RuleSet {
+fn changed_set(rt: &impl Print, set: RuleSet, text: &[u8]) -> io::Result<RuleSet> {
     let positions = number_of(up_to(b',', text));
     let count = number_of(behind(b',', text));
     let mut other = set;
     other.positions = (positions % 256) as u8;
     other.count = (count % 256) as u8;
     if validity::is_valid(other) {
-        print(b"valid");
+        print(rt, b"valid")?;
     } else {
-        print(b"not valid");
+        print(rt, b"not valid")?;
     }
-    other
+    Ok(other)
 }
 
 // The answer to a case, by its letter; gives the set of the next case.
-fn answer(set: RuleSet, verb: u8, text: &[u8], table: &mut [u8]) -> RuleSet
+fn answer(
+    rt: &impl Print,
+    set: RuleSet,
+    verb: u8,
+    text: &[u8],
+    table: &mut [u8],
+) -> io::Result<RuleSet>
     requires { length table.old ≤ 65536 }
 {
     if verb == b'f' {
-        return read_set(text);
+        return read_set(rt, text);
     }
     if verb == b's' {
-        return changed_set(set, text);
+        return changed_set(rt, set, text);
     }
     if verb == b'e' {
-        print_entry(set.count, text, table);
-        return set;
+        print_entry(rt, set.count, text, table)?;
+        return Ok(set);
     }
-    run_table(set, verb, text, table);
-    set
+    run_table(rt, set, verb, text, table)?;
+    Ok(set)
 }
 
 // The line, cut at 120 bytes.
-fn print_line(line: &[u8]) {
+fn print_line(rt: &impl Print, line: &[u8]) -> io::Result<()> {
     if line.len() <= 120 {
-        print(line);
-        return;
+        return print(rt, line);
     }
-    print(&line[0..120]);
-    print(b"..");
+    print(rt, &line[0..120])?;
+    print(rt, b"..")
 }
 
 // One case, or a heading, on a line of the input; gives the set of the next line.
-fn run(set: RuleSet, line: &[u8], table: &mut [u8]) -> RuleSet
+fn run(rt: &impl Print, set: RuleSet, line: &[u8], table: &mut [u8]) -> io::Result<RuleSet>
     requires { length table.old ≤ 65536 }
 {
     if line.len() < 2 {
-        return set;
+        return Ok(set);
     }
-    print_line(line);
+    print_line(rt, line)?;
     if line[0] == b'#' {
-        print(b"\n");
-        return set;
+        print(rt, b"\n")?;
+        return Ok(set);
     }
-    print(b": ");
-    let next = answer(set, line[0], &line[2..], table);
-    print(b"\n");
-    next
+    print(rt, b": ")?;
+    let next = answer(rt, set, line[0], &line[2..], table)?;
+    print(rt, b"\n")?;
+    Ok(next)
 }
 
 // The cases of all lines; the set of the first is the empty one.
-fn run_lines(input: &[u8], table: &mut [u8])
+fn run_lines(rt: &impl Print, input: &[u8], table: &mut [u8]) -> io::Result<()>
     requires { length table.old ≤ 65536 }
 {
     let empty = reader::read(b"");
@@ -373,15 +394,16 @@ fn run_lines(input: &[u8], table: &mut [u8])
     let mut from: usize = 0;
     while from < input.len() {
         let rest = &input[from..];
-        let size = find(rest, 0, rest.len(), b'\n');
-        set = run(set, &rest[0..size], table);
+        let size = find(b'\n', rest);
+        set = run(rt, set, &rest[0..size], table)?;
         from += size + 1;
     }
+    Ok(())
 }
 
-fn main() {
-    let mut input = io::large_buffer();
-    let mut table = io::large_buffer();
-    let n = io::read_full(STDIN_FILENO, &mut input);
-    run_lines(&input[..n], &mut table);
+fn main(rt: HostRuntime) -> io::Result<()> {
+    let mut input = large_buffer();
+    let mut table = large_buffer();
+    let n = read_full(&mut rt.stdin(), &mut input)?;
+    run_lines(&rt, &input[..n], &mut table)
 }
