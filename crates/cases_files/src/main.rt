@@ -13,20 +13,21 @@
 
 ghost use Rattle.std.specs.Prelude.{◌≤◌, length};
 
-use bytes::scan::find;
-use libc::{STDIN_FILENO, STDOUT_FILENO};
+use cases_common::find;
 use model_spec::{Rule, RuleSet};
+use standard_input::{large_buffer, read_full};
+use std::io;
 
-fn print(text: &[u8]) {
-    io::write_all(STDOUT_FILENO, text);
+fn print(rt: &impl Print, text: &[u8]) -> io::Result<()> {
+    rt.write_all(text)
 }
 
-fn print_number(n: u64) {
-    io::print_decimal(STDOUT_FILENO, n);
+fn print_number(rt: &impl Print, n: u64) -> io::Result<()> {
+    rt.print(n)
 }
 
-fn print_byte(n: u8) {
-    print_number(n as u64);
+fn print_byte(rt: &impl Print, n: u8) -> io::Result<()> {
+    print_number(rt, n as u64)
 }
 
 // The byte that a letter stands for after `\`.
@@ -116,30 +117,30 @@ fn zero_set(set: RuleSet) -> bool {
 }
 
 // The outcome of a text, as a digit.
-fn print_outcome(text: &[u8]) {
+fn print_outcome(rt: &impl Print, text: &[u8]) -> io::Result<()> {
     let reading = reader::read(text);
-    print_byte(reading.outcome);
+    print_byte(rt, reading.outcome)
 }
 
 // The outcome of a text, and what a refusal leaves of the set.
-fn print_reading(text: &[u8]) {
+fn print_reading(rt: &impl Print, text: &[u8]) -> io::Result<()> {
     let reading = reader::read(text);
-    print_byte(reading.outcome);
+    print_byte(rt, reading.outcome)?;
     if reading.outcome == 0 {
-        return;
+        return Ok(());
     }
     if zero_set(reading.set) {
-        print(b" empty");
-        return;
+        return print(rt, b" empty");
     }
-    print(b" not empty");
+    print(rt, b" not empty")
 }
 
 // The outcomes of all front parts, from the empty one to the whole.
-fn print_cuts(text: &[u8]) {
+fn print_cuts(rt: &impl Print, text: &[u8]) -> io::Result<()> {
     for cut in 0..=text.len() {
-        print_outcome(&text[0..cut]);
+        print_outcome(rt, &text[0..cut])?;
     }
+    Ok(())
 }
 
 // Whether the buffer holds the text and then zeros.
@@ -153,90 +154,90 @@ fn holds(buffer: &[u8], text: &[u8]) -> bool {
 }
 
 // What the buffer holds: nothing but zeros, the text and then zeros, or something else.
-fn print_content(buffer: &[u8], text: &[u8]) {
+fn print_content(rt: &impl Print, buffer: &[u8], text: &[u8]) -> io::Result<()> {
     if zeros(buffer) {
-        print(b"zeros");
-        return;
+        return print(rt, b"zeros");
     }
     if holds(buffer, text) {
-        print(b"text");
-        return;
+        return print(rt, b"text");
     }
-    print(b"other");
+    print(rt, b"other")
 }
 
 // Writes a set into a buffer of so many bytes, full of `z` before: outcome, length and what the buffer then holds.
 // Nothing for more than 65,536 bytes.
-fn print_written(set: RuleSet, text: &[u8], size: usize) {
+fn print_written(rt: &impl Print, set: RuleSet, text: &[u8], size: usize) -> io::Result<()> {
     let mut space = [b'z'; 65536];
     if 65536 < size {
-        return;
+        return Ok(());
     }
     let buffer = &mut space[0..size];
     let written = writer::write(set, buffer);
-    print_byte(written.outcome);
-    print(b",");
-    print_number(written.length as u64);
-    print(b",");
-    print_content(buffer, text);
+    print_byte(rt, written.outcome)?;
+    print(rt, b",")?;
+    print_number(rt, written.length as u64)?;
+    print(rt, b",")?;
+    print_content(rt, buffer, text)
 }
 
 // Writes the set of a text into five buffers. Nothing for the empty text.
-fn print_rewritten(text: &[u8]) {
+fn print_rewritten(rt: &impl Print, text: &[u8]) -> io::Result<()> {
     let reading = reader::read(text);
     let set = reading.set;
     let size = text.len();
     if size == 0 {
-        return;
+        return Ok(());
     }
-    print_written(set, text, 0);
-    print(b" ");
-    print_written(set, text, size - 1);
-    print(b" ");
-    print_written(set, text, size);
-    print(b" ");
-    print_written(set, text, size + 1);
-    print(b" ");
-    print_written(set, text, 65536);
+    print_written(rt, set, text, 0)?;
+    print(rt, b" ")?;
+    print_written(rt, set, text, size - 1)?;
+    print(rt, b" ")?;
+    print_written(rt, set, text, size)?;
+    print(rt, b" ")?;
+    print_written(rt, set, text, size + 1)?;
+    print(rt, b" ")?;
+    print_written(rt, set, text, 65536)
 }
 
 // The numbers of a list, a space before each.
-fn print_list(list: &[u8]) {
+fn print_list(rt: &impl Print, list: &[u8]) -> io::Result<()> {
     for i in 0..list.len() {
-        print(b" ");
-        print_byte(list[i]);
+        print(rt, b" ")?;
+        print_byte(rt, list[i])?;
     }
+    Ok(())
 }
 
 // A rule: its cost, condition and effect.
-fn print_rule(rule: Rule) {
+fn print_rule(rt: &impl Print, rule: Rule) -> io::Result<()> {
     let condition = rule.condition;
     let effect = rule.effect;
-    print(b"; cost ");
-    print_byte(rule.cost);
-    print(b" if");
-    print_list(&condition);
-    print(b" then");
-    print_list(&effect);
+    print(rt, b"; cost ")?;
+    print_byte(rt, rule.cost)?;
+    print(rt, b" if")?;
+    print_list(rt, &condition)?;
+    print(rt, b" then")?;
+    print_list(rt, &effect)
 }
 
 // The set of a text.
-fn print_set(text: &[u8]) {
+fn print_set(rt: &impl Print, text: &[u8]) -> io::Result<()> {
     let reading = reader::read(text);
     let set = reading.set;
     let sizes = set.sizes;
-    print_byte(set.positions);
-    print(b" positions, sizes");
-    print_list(&sizes);
-    print(b", ");
-    print_byte(set.count);
-    print(b" rules");
+    print_byte(rt, set.positions)?;
+    print(rt, b" positions, sizes")?;
+    print_list(rt, &sizes)?;
+    print(rt, b", ")?;
+    print_byte(rt, set.count)?;
+    print(rt, b" rules")?;
     for k in 0..31usize {
         if k < set.count as usize {
             let rule = set.rules[k];
-            print_rule(rule);
+            print_rule(rt, rule)?;
         }
     }
+    Ok(())
 }
 
 // The set with one part of it spoiled, in one of twelve ways, of which the ninth, size 1 at position 1, spoils nothing
@@ -302,77 +303,79 @@ fn spoiled(set: RuleSet, way: u8) -> RuleSet {
 }
 
 // The outcome of writing a set, as a digit; the buffer has room for the short texts of these cases.
-fn print_write_outcome(set: RuleSet) {
+fn print_write_outcome(rt: &impl Print, set: RuleSet) -> io::Result<()> {
     let mut buffer = [0u8; 256];
     let written = writer::write(set, &mut buffer);
-    print_byte(written.outcome);
+    print_byte(rt, written.outcome)
 }
 
 // The outcomes of writing the set of a text, changed in each way and at last as it is.
-fn print_spoiled(text: &[u8]) {
+fn print_spoiled(rt: &impl Print, text: &[u8]) -> io::Result<()> {
     let reading = reader::read(text);
     for way in 0..14u8 {
-        print_write_outcome(spoiled(reading.set, way));
+        print_write_outcome(rt, spoiled(reading.set, way))?;
     }
+    Ok(())
 }
 
 // The line, cut at 120 bytes.
-fn print_line(line: &[u8]) {
+fn print_line(rt: &impl Print, line: &[u8]) -> io::Result<()> {
     if line.len() <= 120 {
-        print(line);
-        return;
+        return print(rt, line);
     }
-    print(&line[0..120]);
-    print(b"..");
+    print(rt, &line[0..120])?;
+    print(rt, b"..")
 }
 
 // The answer to a case, by its letter.
-fn print_answer(verb: u8, text: &[u8]) {
+fn print_answer(rt: &impl Print, verb: u8, text: &[u8]) -> io::Result<()> {
     if verb == b'r' {
-        print_reading(text);
+        print_reading(rt, text)?;
     }
     if verb == b'c' {
-        print_cuts(text);
+        print_cuts(rt, text)?;
     }
     if verb == b'w' {
-        print_rewritten(text);
+        print_rewritten(rt, text)?;
     }
     if verb == b'v' {
-        print_set(text);
+        print_set(rt, text)?;
     }
     if verb == b's' {
-        print_spoiled(text);
+        print_spoiled(rt, text)?;
     }
+    Ok(())
 }
 
 // One case, or a heading, on a line of the input.
-fn run(line: &[u8]) {
+fn run(rt: &impl Print, line: &[u8]) -> io::Result<()> {
     if line.len() < 2 {
-        return;
+        return Ok(());
     }
-    let mut text = io::large_buffer();
+    let mut text = large_buffer();
     let length = decode(&line[2..], &mut text);
-    print_line(line);
+    print_line(rt, line)?;
     if line[0] != b'#' {
-        print(b" -> ");
-        print_answer(line[0], &text[0..length]);
+        print(rt, b" -> ")?;
+        print_answer(rt, line[0], &text[0..length])?;
     }
-    print(b"\n");
+    print(rt, b"\n")
 }
 
 // The cases of all lines.
-fn run_lines(input: &[u8]) {
+fn run_lines(rt: &impl Print, input: &[u8]) -> io::Result<()> {
     let mut from: usize = 0;
     while from < input.len() {
         let rest = &input[from..];
-        let size = find(rest, 0, rest.len(), b'\n');
-        run(&rest[0..size]);
+        let size = find(b'\n', rest);
+        run(rt, &rest[0..size])?;
         from += size + 1;
     }
+    Ok(())
 }
 
-fn main() {
-    let mut input = io::large_buffer();
-    let n = io::read_full(STDIN_FILENO, &mut input);
-    run_lines(&input[..n]);
+fn main(rt: HostRuntime) -> io::Result<()> {
+    let mut input = large_buffer();
+    let n = read_full(&mut rt.stdin(), &mut input)?;
+    run_lines(&rt, &input[..n])
 }
