@@ -45,17 +45,17 @@
 // 3,000.
 #![tactic(auto)]
 
-ghost use Rattle.std.specs.Prelude.{◌≤◌, length};
+ghost use Rattle.std.specs.Prelude.{◌≤◌, length, IfOk};
 
 use bounded::smaller;
 use buffers::fill_from;
-use bytes::scan::find;
 use cases_buffers::{put_byte, put_entry};
-use cases_common::{behind, decode, number_of, up_to};
+use cases_common::{behind, decode, find, number_of, up_to};
 use explain_spec::Explanation;
-use libc::{STDIN_FILENO, STDOUT_FILENO};
 use model_spec::RuleSet;
 use search_spec::{Answer, NO_MOVE, Tally};
+use standard_input::{buffer, large_buffer, read_full};
+use std::io;
 use tables::{KEPT, entry_at};
 
 // Puts the numbers of a comma list into a buffer, as far as there is room, 255 for each that is larger; gives how many
@@ -65,7 +65,7 @@ fn list_of(text: &[u8], bytes: &mut [u8]) -> usize
 {
     let mut count: usize = 0;
     let mut from: usize = 0;
-    if find(text, 0, text.len(), b'-') == 0 {
+    if find(b'-', text) == 0 {
         return 0;
     }
     while count < bytes.len() {
@@ -73,7 +73,7 @@ fn list_of(text: &[u8], bytes: &mut [u8]) -> usize
             return count;
         }
         let rest = &text[from..];
-        let size = find(rest, 0, rest.len(), b',');
+        let size = find(b',', rest);
         put_byte(count, smaller(number_of(&rest[0..size]), 255), bytes);
         count += 1;
         from += size + 1;
@@ -96,16 +96,16 @@ struct Counted {
     tally: Tally,
 }
 
-fn print(text: &[u8]) {
-    io::write_all(STDOUT_FILENO, text);
+fn print(rt: &impl Print, text: &[u8]) -> io::Result<()> {
+    rt.write_all(text)
 }
 
-fn print_number(n: u64) {
-    io::print_decimal(STDOUT_FILENO, n);
+fn print_number(rt: &impl Print, n: u64) -> io::Result<()> {
+    rt.print(n)
 }
 
-fn print_byte(n: u8) {
-    print_number(n as u64);
+fn print_byte(rt: &impl Print, n: u8) -> io::Result<()> {
+    print_number(rt, n as u64)
 }
 
 // Puts all entries of a text, as `6:7,16:12`, into the table.
@@ -113,7 +113,7 @@ fn put_entries(text: &[u8], table: &mut [u8]) {
     let mut from: usize = 0;
     while from < text.len() {
         let rest = &text[from..];
-        let size = find(rest, 0, rest.len(), b',');
+        let size = find(b',', rest);
         let entry = &rest[0..size];
         let index = number_of(up_to(b':', entry));
         let value = number_of(behind(b':', entry));
@@ -133,60 +133,62 @@ fn mark(index: usize, table: &[u8]) -> u64
 }
 
 // How many marks a table has.
-fn print_marks(table: &[u8]) {
+fn print_marks(rt: &impl Print, table: &[u8]) -> io::Result<()> {
     let mut marks: u64 = 0;
     for i in 0..table.len() / 2 {
         marks += mark(i, table);
     }
-    print_number(marks);
-    print(b" marks");
+    print_number(rt, marks)?;
+    print(rt, b" marks")
 }
 
 // Builds a table over bytes of 170.
-fn print_built(set: RuleSet, reach: usize, table: &mut [u8]) {
+fn print_built(rt: &impl Print, set: RuleSet, reach: usize, table: &mut [u8]) -> io::Result<()> {
     fill_from(table, 0, 170);
     let answer = builder::build_table(set, reach, table);
-    print_byte(answer.outcome);
+    print_byte(rt, answer.outcome)?;
     if answer.outcome == 0 {
-        print(b"; ");
-        print_marks(table);
+        print(rt, b"; ")?;
+        print_marks(rt, table)?;
     }
+    Ok(())
 }
 
 // The answer to `b`; gives the size of the table that now stands.
-fn built(set: RuleSet, text: &[u8], table: &mut [u8]) -> usize
-    ensures { result ≤ length table.old }
+fn built(rt: &impl Print, set: RuleSet, text: &[u8], table: &mut [u8]) -> io::Result<usize>
+    ensures { IfOk result (λ size. size ≤ length table.old) }
 {
     let reach = number_of(up_to(b' ', text));
     let size = smaller(number_of(behind(b' ', text)), table.len());
-    print_built(set, reach, &mut table[0..size]);
-    size
+    print_built(rt, set, reach, &mut table[0..size])?;
+    Ok(size)
 }
 
 // Makes a table of these entries, the others kept.
-fn print_made(entries: &[u8], table: &mut [u8]) {
+fn print_made(rt: &impl Print, entries: &[u8], table: &mut [u8]) -> io::Result<()> {
     fill_from(table, 0, 255);
     put_entries(entries, table);
-    print_marks(table);
+    print_marks(rt, table)
 }
 
 // The answer to `t`; gives the size of the table that now stands.
-fn made(text: &[u8], table: &mut [u8]) -> usize
-    ensures { result ≤ length table.old }
+fn made(rt: &impl Print, text: &[u8], table: &mut [u8]) -> io::Result<usize>
+    ensures { IfOk result (λ size. size ≤ length table.old) }
 {
     let size = smaller(number_of(up_to(b' ', text)), table.len());
-    print_made(behind(b' ', text), &mut table[0..size]);
-    size
+    print_made(rt, behind(b' ', text), &mut table[0..size])?;
+    Ok(size)
 }
 
 // The moves of a plan, with commas between.
-fn print_moves(plan: &[u8]) {
+fn print_moves(rt: &impl Print, plan: &[u8]) -> io::Result<()> {
     for i in 0..plan.len() {
         if i != 0 {
-            print(b",");
+            print(rt, b",")?;
         }
-        print_byte(plan[i]);
+        print_byte(rt, plan[i])?;
     }
+    Ok(())
 }
 
 // Whether a part of the plan buffer is 255 throughout.
@@ -200,38 +202,38 @@ fn blank(plan: &[u8]) -> bool {
 }
 
 // The numbers of a search's answer.
-fn print_numbers(answer: Answer) {
-    print_byte(answer.outcome);
-    print(b"; cost ");
-    print_number(answer.cost as u64);
-    print(b"; length ");
-    print_byte(answer.length);
-    print(b"; steps ");
-    print_number(answer.steps as u64);
-    print(b"; floor ");
-    print_number(answer.floor as u64);
+fn print_numbers(rt: &impl Print, answer: Answer) -> io::Result<()> {
+    print_byte(rt, answer.outcome)?;
+    print(rt, b"; cost ")?;
+    print_number(rt, answer.cost as u64)?;
+    print(rt, b"; length ")?;
+    print_byte(rt, answer.length)?;
+    print(rt, b"; steps ")?;
+    print_number(rt, answer.steps as u64)?;
+    print(rt, b"; floor ")?;
+    print_number(rt, answer.floor as u64)
 }
 
 // A plan of this length, and what else is in the plan buffer.
-fn print_plan(length: usize, plan: &[u8]) {
-    print(b"; plan ");
-    print_moves(answers::plan_part(plan, length));
+fn print_plan(rt: &impl Print, length: usize, plan: &[u8]) -> io::Result<()> {
+    print(rt, b"; plan ")?;
+    print_moves(rt, answers::plan_part(plan, length))?;
     let size = smaller(length, plan.len());
     if blank(&plan[size..]) {
-        print(b"; rest 255");
-        return;
+        return print(rt, b"; rest 255");
     }
-    print(b"; rest not 255");
+    print(rt, b"; rest not 255")
 }
 
 // The answer of a search, and what it left in the plan buffer.
-fn print_answer(answer: Answer, plan: &[u8]) {
-    print_numbers(answer);
-    print_plan(answer.length as usize, plan);
+fn print_answer(rt: &impl Print, answer: Answer, plan: &[u8]) -> io::Result<()> {
+    print_numbers(rt, answer)?;
+    print_plan(rt, answer.length as usize, plan)
 }
 
 // A search with a plan buffer over bytes of 170.
 fn print_search(
+    rt: &impl Print,
     set: RuleSet,
     reach: usize,
     table: &[u8],
@@ -241,23 +243,23 @@ fn print_search(
     cost: u16,
     limit: u32,
     plan: &mut [u8],
-) {
+) -> io::Result<()> {
     fill_from(plan, 0, 170);
     let answer = search::search(set, reach, table, start, goal, moves, cost, limit, plan);
-    print_answer(answer, plan);
+    print_answer(rt, answer, plan)
 }
 
 // The counts of a tally, with commas between.
-fn print_tally(tally: Tally) {
-    print_number(tally.solved);
-    print(b",");
-    print_number(tally.unsolvable);
-    print(b",");
-    print_number(tally.limited);
-    print(b",");
-    print_number(tally.refused);
-    print(b",");
-    print_number(tally.steps);
+fn print_tally(rt: &impl Print, tally: Tally) -> io::Result<()> {
+    print_number(rt, tally.solved)?;
+    print(rt, b",")?;
+    print_number(rt, tally.unsolvable)?;
+    print(rt, b",")?;
+    print_number(rt, tally.limited)?;
+    print(rt, b",")?;
+    print_number(rt, tally.refused)?;
+    print(rt, b",")?;
+    print_number(rt, tally.steps)
 }
 
 // A search with a tally that is kept in a local.
@@ -292,6 +294,7 @@ fn updated(tally: Tally, outcome: u8, steps: u32) -> Tally {
 
 // A search that updates the tally, with a plan buffer as it is; gives the tally.
 fn print_tallied_search(
+    rt: &impl Print,
     set: RuleSet,
     reach: usize,
     table: &[u8],
@@ -302,46 +305,47 @@ fn print_tallied_search(
     limit: u32,
     plan: &mut [u8],
     tally: Tally,
-) -> Tally {
+) -> io::Result<Tally> {
     let counted = counted_search(
         set, reach, table, start, goal, moves, cost, limit, plan, tally,
     );
     let answer = counted.answer;
     let next = counted.tally;
-    print_answer(answer, plan);
-    print(b"; tally ");
-    print_tally(next);
-    next
+    print_answer(rt, answer, plan)?;
+    print(rt, b"; tally ")?;
+    print_tally(rt, next)?;
+    Ok(next)
 }
 
 // The outcome and the reason of an explanation, with what the reason names.
-fn print_reason(answer: Explanation) {
-    print_byte(answer.outcome);
-    print(b"; reason ");
-    print_byte(answer.reason);
-    print(b"; place ");
-    print_byte(answer.place);
-    print(b"; costs ");
-    print_number(answer.cost as u64);
-    print(b",");
-    print_number(answer.plan_cost as u64);
+fn print_reason(rt: &impl Print, answer: Explanation) -> io::Result<()> {
+    print_byte(rt, answer.outcome)?;
+    print(rt, b"; reason ")?;
+    print_byte(rt, answer.reason)?;
+    print(rt, b"; place ")?;
+    print_byte(rt, answer.place)?;
+    print(rt, b"; costs ")?;
+    print_number(rt, answer.cost as u64)?;
+    print(rt, b",")?;
+    print_number(rt, answer.plan_cost as u64)
 }
 
 // The marked segment of an explanation, with its witness.
-fn print_segment(answer: Explanation) {
-    print(b"; segment ");
-    print_number(answer.segment_end as u64);
-    print(b",");
-    print_byte(answer.segment_length);
-    print(b"; witness ");
-    print_byte(answer.witness_length);
-    print(b": ");
+fn print_segment(rt: &impl Print, answer: Explanation) -> io::Result<()> {
+    print(rt, b"; segment ")?;
+    print_number(rt, answer.segment_end as u64)?;
+    print(rt, b",")?;
+    print_byte(rt, answer.segment_length)?;
+    print(rt, b"; witness ")?;
+    print_byte(rt, answer.witness_length)?;
+    print(rt, b": ")?;
     let witness = answer.witness;
-    print_moves(&witness);
+    print_moves(rt, &witness)
 }
 
 // Why the proposal of a comma list is not the plan.
 fn print_explanation(
+    rt: &impl Print,
     set: RuleSet,
     reach: usize,
     table: &[u8],
@@ -351,8 +355,8 @@ fn print_explanation(
     cost: u16,
     limit: u32,
     text: &[u8],
-) {
-    let mut proposal = io::buffer();
+) -> io::Result<()> {
+    let mut proposal = buffer();
     let size = list_of(text, &mut proposal);
     let answer = explain::explain(
         set,
@@ -365,13 +369,14 @@ fn print_explanation(
         limit,
         &proposal[0..size],
     );
-    print_reason(answer);
-    print_segment(answer);
+    print_reason(rt, answer)?;
+    print_segment(rt, answer)
 }
 
 // The answer to `q`, `k` or `x` for a start and a goal; the text holds moves, cost, limit and the room or the proposal.
 // Gives the tally.
 fn print_found(
+    rt: &impl Print,
     set: RuleSet,
     reach: usize,
     table: &[u8],
@@ -381,7 +386,7 @@ fn print_found(
     plan: &mut [u8],
     tally: Tally,
     verb: u8,
-) -> Tally {
+) -> io::Result<Tally> {
     let moves = number_of(up_to(b' ', text));
     let bounds = behind(b' ', text);
     let cost = smaller(number_of(up_to(b' ', bounds)), 65535) as u16;
@@ -389,31 +394,32 @@ fn print_found(
     let limit = smaller(number_of(up_to(b' ', limits)), 4294967295) as u32;
     let last = behind(b' ', limits);
     if verb == b'x' {
-        print_explanation(set, reach, table, start, goal, moves, cost, limit, last);
-        return tally;
+        print_explanation(rt, set, reach, table, start, goal, moves, cost, limit, last)?;
+        return Ok(tally);
     }
     let room = smaller(number_of(last), plan.len());
     let part = &mut plan[0..room];
     if verb == b'k' {
         return print_tallied_search(
-            set, reach, table, start, goal, moves, cost, limit, part, tally,
+            rt, set, reach, table, start, goal, moves, cost, limit, part, tally,
         );
     }
-    print_search(set, reach, table, start, goal, moves, cost, limit, part);
-    tally
+    print_search(rt, set, reach, table, start, goal, moves, cost, limit, part)?;
+    Ok(tally)
 }
 
 // The answer to `q` or `k`, with this plan buffer, or to `x`; gives the tally.
 fn print_query(
+    rt: &impl Print,
     set: RuleSet,
     text: &[u8],
     table: &[u8],
     plan: &mut [u8],
     tally: Tally,
     verb: u8,
-) -> Tally {
-    let mut starts = io::buffer();
-    let mut goals = io::buffer();
+) -> io::Result<Tally> {
+    let mut starts = buffer();
+    let mut goals = buffer();
     let reach = number_of(up_to(b' ', text));
     let states = behind(b' ', text);
     let start = list_of(up_to(b' ', states), &mut starts);
@@ -421,6 +427,7 @@ fn print_query(
     let goal = list_of(up_to(b' ', more), &mut goals);
     let numbers = behind(b' ', more);
     print_found(
+        rt,
         set,
         reach,
         table,
@@ -434,9 +441,15 @@ fn print_query(
 }
 
 // The answer to `q`: a plan buffer of its own, and the tally as it was.
-fn print_untallied(set: RuleSet, text: &[u8], table: &[u8], tally: Tally) -> Tally {
-    let mut plan = io::buffer();
-    print_query(set, text, table, &mut plan, tally, b'q')
+fn print_untallied(
+    rt: &impl Print,
+    set: RuleSet,
+    text: &[u8],
+    table: &[u8],
+    tally: Tally,
+) -> io::Result<Tally> {
+    let mut plan = buffer();
+    print_query(rt, set, text, table, &mut plan, tally, b'q')
 }
 
 // The tally of a comma list.
@@ -459,137 +472,150 @@ fn tally_of(text: &[u8]) -> Tally {
 }
 
 // The answer to `c`; gives the tally.
-fn print_set_tally(text: &[u8]) -> Tally {
+fn print_set_tally(rt: &impl Print, text: &[u8]) -> io::Result<Tally> {
     let tally = tally_of(text);
-    print(b"tally ");
-    print_tally(tally);
-    tally
+    print(rt, b"tally ")?;
+    print_tally(rt, tally)?;
+    Ok(tally)
 }
 
 // The answer to `u`; gives the tally.
-fn print_updates(tally: Tally, text: &[u8]) -> Tally {
+fn print_updates(rt: &impl Print, tally: Tally, text: &[u8]) -> io::Result<Tally> {
     let outcome = smaller(number_of(up_to(b' ', text)), 255) as u8;
     let steps = smaller(number_of(behind(b' ', text)), 4294967295) as u32;
-    print(b"by value ");
-    print_tally(tally::tallied(tally, outcome, steps));
+    print(rt, b"by value ")?;
+    print_tally(rt, tally::tallied(tally, outcome, steps))?;
     let next = updated(tally, outcome, steps);
-    print(b"; by reference ");
-    print_tally(next);
-    next
+    print(rt, b"; by reference ")?;
+    print_tally(rt, next)?;
+    Ok(next)
 }
 
 // The answer to `p`.
-fn print_part(text: &[u8], plan: &[u8]) {
+fn print_part(rt: &impl Print, text: &[u8], plan: &[u8]) -> io::Result<()> {
     let size = number_of(up_to(b' ', text));
     let room = smaller(number_of(behind(b' ', text)), plan.len());
-    print(b"part ");
-    print_moves(answers::plan_part(&plan[0..room], size));
+    print(rt, b"part ")?;
+    print_moves(rt, answers::plan_part(&plan[0..room], size))
 }
 
 // The set of a text, with its outcome printed.
-fn read_set(text: &[u8]) -> RuleSet {
-    let mut file = io::large_buffer();
+fn read_set(rt: &impl Print, text: &[u8]) -> io::Result<RuleSet> {
+    let mut file = large_buffer();
     let size = decode(text, &mut file);
     let reading = reader::read(&file[0..size]);
-    print_byte(reading.outcome);
-    reading.set
+    print_byte(rt, reading.outcome)?;
+    Ok(reading.set)
 }
 
 // The set with two of its numbers changed, and whether it is valid printed.
-fn changed_set(set: RuleSet, text: &[u8]) -> RuleSet {
+fn changed_set(rt: &impl Print, set: RuleSet, text: &[u8]) -> io::Result<RuleSet> {
     let positions = number_of(up_to(b',', text));
     let count = number_of(behind(b',', text));
     let mut other = set;
     other.positions = (positions % 256) as u8;
     other.count = (count % 256) as u8;
     if validity::is_valid(other) {
-        print(b"valid");
+        print(rt, b"valid")?;
     } else {
-        print(b"not valid");
+        print(rt, b"not valid")?;
     }
-    other
+    Ok(other)
 }
 
 // The set after a case: of `f` and `s` the one that they give.
-fn next_set(set: RuleSet, verb: u8, text: &[u8]) -> RuleSet {
+fn next_set(rt: &impl Print, set: RuleSet, verb: u8, text: &[u8]) -> io::Result<RuleSet> {
     if verb == b'f' {
-        return read_set(text);
+        return read_set(rt, text);
     }
     if verb == b's' {
-        return changed_set(set, text);
+        return changed_set(rt, set, text);
     }
-    set
+    Ok(set)
 }
 
 // The size of the table that stands after a case: of `b` and `t` the one that they give.
-fn next_size(set: RuleSet, size: usize, verb: u8, text: &[u8], table: &mut [u8]) -> usize {
+fn next_size(
+    rt: &impl Print,
+    set: RuleSet,
+    size: usize,
+    verb: u8,
+    text: &[u8],
+    table: &mut [u8],
+) -> io::Result<usize> {
     if verb == b'b' {
-        return built(set, text, table);
+        return built(rt, set, text, table);
     }
     if verb == b't' {
-        return made(text, table);
+        return made(rt, text, table);
     }
-    size
+    Ok(size)
 }
 
 // The tally after a case, by its letter; any other leaves it.
 fn next_tally(
+    rt: &impl Print,
     set: RuleSet,
     tally: Tally,
     verb: u8,
     text: &[u8],
     table: &[u8],
     plan: &mut [u8],
-) -> Tally {
+) -> io::Result<Tally> {
     if verb == b'c' {
-        return print_set_tally(text);
+        return print_set_tally(rt, text);
     }
     if verb == b'u' {
-        return print_updates(tally, text);
+        return print_updates(rt, tally, text);
     }
     if verb == b'p' {
-        print_part(text, plan);
-        return tally;
+        print_part(rt, text, plan)?;
+        return Ok(tally);
     }
     if verb == b'q' {
-        return print_untallied(set, text, table, tally);
+        return print_untallied(rt, set, text, table, tally);
     }
     if verb == b'k' {
-        return print_query(set, text, table, plan, tally, verb);
+        return print_query(rt, set, text, table, plan, tally, verb);
     }
     if verb == b'x' {
-        return print_query(set, text, table, plan, tally, verb);
+        return print_query(rt, set, text, table, plan, tally, verb);
     }
-    tally
+    Ok(tally)
 }
 
 // The line, cut at 120 bytes.
-fn print_line(line: &[u8]) {
+fn print_line(rt: &impl Print, line: &[u8]) -> io::Result<()> {
     if line.len() <= 120 {
-        print(line);
-        return;
+        return print(rt, line);
     }
-    print(&line[0..120]);
-    print(b"..");
+    print(rt, &line[0..120])?;
+    print(rt, b"..")
 }
 
 // One case, or a heading, on a line of the input; gives what stands for the next line.
-fn run(standing: Standing, line: &[u8], table: &mut [u8], plan: &mut [u8]) -> Standing {
+fn run(
+    rt: &impl Print,
+    standing: Standing,
+    line: &[u8],
+    table: &mut [u8],
+    plan: &mut [u8],
+) -> io::Result<Standing> {
     if line.len() < 2 {
-        return standing;
+        return Ok(standing);
     }
-    print_line(line);
+    print_line(rt, line)?;
     if line[0] == b'#' {
-        print(b"\n");
-        return standing;
+        print(rt, b"\n")?;
+        return Ok(standing);
     }
-    print(b": ");
-    let set = next_set(standing.set, line[0], &line[2..]);
-    let size = next_size(set, standing.size, line[0], &line[2..], table);
+    print(rt, b": ")?;
+    let set = next_set(rt, standing.set, line[0], &line[2..])?;
+    let size = next_size(rt, set, standing.size, line[0], &line[2..], table)?;
     let stands = &table[0..smaller(size, table.len())];
-    let tally = next_tally(set, standing.tally, line[0], &line[2..], stands, plan);
-    print(b"\n");
-    Standing { set, size, tally }
+    let tally = next_tally(rt, set, standing.tally, line[0], &line[2..], stands, plan)?;
+    print(rt, b"\n")?;
+    Ok(Standing { set, size, tally })
 }
 
 // What stands before the first line: the empty set, no table, and a tally of 0 throughout.
@@ -605,22 +631,23 @@ fn first_standing() -> Standing {
 }
 
 // The cases of all lines.
-fn run_lines(input: &[u8], table: &mut [u8], plan: &mut [u8]) {
+fn run_lines(rt: &impl Print, input: &[u8], table: &mut [u8], plan: &mut [u8]) -> io::Result<()> {
     let mut standing = first_standing();
     let mut from: usize = 0;
     while from < input.len() {
         let rest = &input[from..];
-        let size = find(rest, 0, rest.len(), b'\n');
-        standing = run(standing, &rest[0..size], table, plan);
+        let size = find(b'\n', rest);
+        standing = run(rt, standing, &rest[0..size], table, plan)?;
         from += size + 1;
     }
+    Ok(())
 }
 
-fn main() {
+fn main(rt: HostRuntime) -> io::Result<()> {
     let mut input = [0u8; 131072];
-    let mut table = io::large_buffer();
-    let mut plan = io::buffer();
+    let mut table = large_buffer();
+    let mut plan = buffer();
     fill_from(&mut plan, 0, 170);
-    let n = io::read_full(STDIN_FILENO, &mut input);
-    run_lines(&input[..n], &mut table, &mut plan);
+    let n = read_full(&mut rt.stdin(), &mut input)?;
+    run_lines(&rt, &input[..n], &mut table, &mut plan)
 }
