@@ -8,9 +8,10 @@
 ghost use Rattle.std.specs.Prelude.{◌<◌, ◌≤◌, length};
 
 use composition::{empty, extended};
-use libc::{STDIN_FILENO, STDOUT_FILENO};
 use macros_spec::Vectors;
 use model_spec::{MAX_RULES, MOVE_LIMIT, PLACE_COUNT, RuleSet};
+use standard_input::{large_buffer, read_full};
+use std::io;
 use std::num::wrapping_add_u64;
 
 // How many numbers a line at the start of a text has, and how many bytes it takes with the one that ends it.
@@ -242,31 +243,30 @@ fn list_before(text: &[u8], numbers: &mut [u8]) -> Line
     Line { count: 0, size: 0 }
 }
 
-fn print(label: &[u8], number: u64) {
-    io::write_all(STDOUT_FILENO, label);
-    io::print_decimal(STDOUT_FILENO, number);
-    io::write_all(STDOUT_FILENO, b"\n");
+fn print(rt: &impl Print, label: &[u8], number: u64) -> io::Result<()> {
+    rt.write_all(label)?;
+    rt.println(number)
 }
 
 // Reads the list, if there is one, and the file, and prints what is counted.
-fn run(input: &[u8]) {
+fn run(rt: &impl Print, input: &[u8]) -> io::Result<()> {
     let mut moves = [0u8; MOVE_LIMIT];
     let line = list_before(input, &mut moves);
     let count = line.count;
     let size = line.size;
     let reading = reader::read(&input[size..]);
-    print(b"outcome=", reading.outcome as u64);
+    print(rt, b"outcome=", reading.outcome as u64)?;
     if reading.outcome != 0 {
-        return;
+        return Ok(());
     }
     let totals = totals_for(reading.set, &moves[0..count]);
-    print(b"admitted=", totals.admitted);
-    print(b"sum=", totals.sum);
-    print(b"sums=", totals.sums);
+    print(rt, b"admitted=", totals.admitted)?;
+    print(rt, b"sum=", totals.sum)?;
+    print(rt, b"sums=", totals.sums)
 }
 
-fn main() {
-    let mut input = io::large_buffer();
-    let n = io::read_full(STDIN_FILENO, &mut input);
-    run(&input[..n]);
+fn main(rt: HostRuntime) -> io::Result<()> {
+    let mut input = large_buffer();
+    let n = read_full(&mut rt.stdin(), &mut input)?;
+    run(&rt, &input[..n])
 }
