@@ -6,9 +6,10 @@
 
 ghost use Rattle.std.specs.Prelude.{◌≤◌, length};
 
-use libc::{STDIN_FILENO, STDOUT_FILENO};
 use macros_spec::Touched;
 use model_spec::{MAX_RULES, RuleSet};
+use standard_input::{large_buffer, read_full};
+use std::io;
 use std::num::wrapping_add_u64;
 use tables::{KEPT, entry_at, sequence_count};
 use unions_spec::TableAnswer;
@@ -127,51 +128,51 @@ fn check(set: RuleSet, table: &[u8], times: u32) -> Runs {
     runs
 }
 
-fn print(label: &[u8], number: u64) {
-    io::write_all(STDOUT_FILENO, label);
-    io::print_decimal(STDOUT_FILENO, number);
-    io::write_all(STDOUT_FILENO, b"\n");
+fn print(rt: &impl Print, label: &[u8], number: u64) -> io::Result<()> {
+    rt.write_all(label)?;
+    rt.println(number)
 }
 
-fn print_touched(touched: Touched) {
-    print(b"reads=", touched.reads as u64);
-    print(b"writes=", touched.writes as u64);
+fn print_touched(rt: &impl Print, touched: Touched) -> io::Result<()> {
+    print(rt, b"reads=", touched.reads as u64)?;
+    print(rt, b"writes=", touched.writes as u64)
 }
 
 // Builds and checks the table of a rule set.
-fn run(set: RuleSet, builds: u32, checks: u32) {
+fn run(rt: &impl Print, set: RuleSet, builds: u32, checks: u32) -> io::Result<()> {
     let mut space = [0u8; 61568];
     let entries = entries_of(set.count);
     let table = &mut space[0..2 * entries];
     let built = build(set, table, builds);
     let checked = check(set, table, checks);
     let totals = totals_of(table);
-    print(b"entries=", entries as u64);
-    print(b"marks=", totals.marks);
-    print(b"sum=", totals.sum);
-    print(b"sums=", totals.sums);
-    print(b"built=", built.passed);
-    print_touched(built.touched);
-    print(b"accepted=", checked.passed);
-    print_touched(checked.touched);
+    print(rt, b"entries=", entries as u64)?;
+    print(rt, b"marks=", totals.marks)?;
+    print(rt, b"sum=", totals.sum)?;
+    print(rt, b"sums=", totals.sums)?;
+    print(rt, b"built=", built.passed)?;
+    print_touched(rt, built.touched)?;
+    print(rt, b"accepted=", checked.passed)?;
+    print_touched(rt, checked.touched)
 }
 
 // Reads the two numbers and the file.
-fn read(input: &[u8]) {
+fn read(rt: &impl Print, input: &[u8]) -> io::Result<()> {
     let builds = leading_number(input);
     let after_first = builds.size;
     let rest = &input[after_first..];
     let checks = leading_number(rest);
     let after_second = checks.size;
     let reading = reader::read(&rest[after_second..]);
-    print(b"outcome=", reading.outcome as u64);
+    print(rt, b"outcome=", reading.outcome as u64)?;
     if reading.outcome == 0 {
-        run(reading.set, builds.value, checks.value);
+        run(rt, reading.set, builds.value, checks.value)?;
     }
+    Ok(())
 }
 
-fn main() {
-    let mut input = io::large_buffer();
-    let n = io::read_full(STDIN_FILENO, &mut input);
-    read(&input[..n]);
+fn main(rt: HostRuntime) -> io::Result<()> {
+    let mut input = large_buffer();
+    let n = read_full(&mut rt.stdin(), &mut input)?;
+    read(&rt, &input[..n])
 }
