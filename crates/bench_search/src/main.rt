@@ -7,9 +7,10 @@
 
 ghost use Rattle.std.specs.Prelude.{◌≤◌, length};
 
-use libc::{STDIN_FILENO, STDOUT_FILENO};
 use model_spec::{MAX_RULES, MOVE_LIMIT, PLACE_COUNT, RuleSet};
 use search_spec::{Answer, NO_MOVE};
+use standard_input::{large_buffer, read_full};
+use std::io;
 use tables::sequence_count;
 
 // A number at the start of a text, the byte that ends its digits (0 where the text does), and how many bytes it takes
@@ -115,41 +116,41 @@ fn entries_of(count: u8, reach: usize) -> usize
     sequence_count(count, reach)
 }
 
-fn print(label: &[u8], number: u64) {
-    io::write_all(STDOUT_FILENO, label);
-    io::print_decimal(STDOUT_FILENO, number);
-    io::write_all(STDOUT_FILENO, b"\n");
+fn print(rt: &impl Print, label: &[u8], number: u64) -> io::Result<()> {
+    rt.write_all(label)?;
+    rt.println(number)
 }
 
-fn print_answer(answer: Answer) {
-    print(b"outcome=", answer.outcome as u64);
-    print(b"cost=", answer.cost as u64);
-    print(b"length=", answer.length as u64);
-    print(b"steps=", answer.steps as u64);
+fn print_answer(rt: &impl Print, answer: Answer) -> io::Result<()> {
+    print(rt, b"outcome=", answer.outcome as u64)?;
+    print(rt, b"cost=", answer.cost as u64)?;
+    print(rt, b"length=", answer.length as u64)?;
+    print(rt, b"steps=", answer.steps as u64)
 }
 
-fn print_move(number: u8) {
-    print(b"move=", number as u64);
+fn print_move(rt: &impl Print, number: u8) -> io::Result<()> {
+    print(rt, b"move=", number as u64)
 }
 
 // Prints the moves of a plan buffer, up to the first byte that is none.
-fn print_moves(plan: &[u8]) {
+fn print_moves(rt: &impl Print, plan: &[u8]) -> io::Result<()> {
     for i in 0..plan.len() {
         if plan[i] == NO_MOVE {
-            return;
+            return Ok(());
         }
-        print_move(plan[i]);
+        print_move(rt, plan[i])?;
     }
+    Ok(())
 }
 
 // Builds the table of a rule set and searches with it.
-fn run(set: RuleSet, bounds: Bounds, start: &[u8], goal: &[u8]) {
+fn run(rt: &impl Print, set: RuleSet, bounds: Bounds, start: &[u8], goal: &[u8]) -> io::Result<()> {
     let mut space = [0u8; 61568];
     let mut plan = [0u8; MOVE_LIMIT];
     let entries = entries_of(set.count, bounds.reach);
     let table = &mut space[0..2 * entries];
     let built = builder::build_table(set, bounds.reach, table);
-    print(b"built=", built.outcome as u64);
+    print(rt, b"built=", built.outcome as u64)?;
     let answer = search::search(
         set,
         bounds.reach,
@@ -161,12 +162,12 @@ fn run(set: RuleSet, bounds: Bounds, start: &[u8], goal: &[u8]) {
         bounds.step_limit,
         &mut plan,
     );
-    print_answer(answer);
-    print_moves(&plan);
+    print_answer(rt, answer)?;
+    print_moves(rt, &plan)
 }
 
 // Reads the three lines and the file.
-fn read(input: &[u8]) {
+fn read(rt: &impl Print, input: &[u8]) -> io::Result<()> {
     let mut start = [0u8; PLACE_COUNT];
     let mut goal = [0u8; PLACE_COUNT];
     let bounds = leading_bounds(input);
@@ -180,14 +181,21 @@ fn read(input: &[u8]) {
     let asked = second.count;
     let after_goal = second.size;
     let reading = reader::read(&rest[after_goal..]);
-    print(b"read=", reading.outcome as u64);
+    print(rt, b"read=", reading.outcome as u64)?;
     if reading.outcome == 0 {
-        run(reading.set, bounds, &start[0..positions], &goal[0..asked]);
+        run(
+            rt,
+            reading.set,
+            bounds,
+            &start[0..positions],
+            &goal[0..asked],
+        )?;
     }
+    Ok(())
 }
 
-fn main() {
-    let mut input = io::large_buffer();
-    let n = io::read_full(STDIN_FILENO, &mut input);
-    read(&input[..n]);
+fn main(rt: HostRuntime) -> io::Result<()> {
+    let mut input = large_buffer();
+    let n = read_full(&mut rt.stdin(), &mut input)?;
+    read(&rt, &input[..n])
 }
