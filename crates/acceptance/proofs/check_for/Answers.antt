@@ -1,7 +1,6 @@
 -- `acceptance::check_for` meets its contract: each way out has the number of its cause.
 use mathlib.Core.Path.{sym, ◌∙◌}
 use lib.ListN.{length}
-use Rattle.model_spec.proofs.LoopLaws.{failed, passed}
 use Rattle.tables_spec.proofs.AnswerLaws.{shape_ready_iff, marks-refused, marks_decide}
 use Rattle.acceptance.proofs.check_for.Goals as goal
 
@@ -23,10 +22,10 @@ returns-then-not-is_accepted c =
     let s = c.args in
     let z = sym c.shape_refusal-outcome.ensures ∙ c.if-outcome-ne0.false in
     sym (marks_decide s.set s.reach s.table.now z _
-    (failed c.is_accepted.ensures c.if-not-is_accepted.true-raw))
+    (sym c.is_accepted.ensures ∙ c.if-not-is_accepted.true))
 
 pub returns : goal.returns
 returns c =
     let s = c.args in
     let z = sym c.shape_refusal-outcome.ensures ∙ c.if-outcome-ne0.false in
-    sym (marks_decide s.set s.reach s.table.now z _ (passed c.is_accepted.ensures c.if-not-is_accepted.false-raw))
+    sym (marks_decide s.set s.reach s.table.now z _ (sym c.is_accepted.ensures ∙ c.if-not-is_accepted.false))

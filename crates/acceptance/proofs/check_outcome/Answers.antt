@@ -4,7 +4,6 @@ use mathlib.Core.List.{List}
 use Prim.Native.Nat.{ℕ}
 use Rattle.theory_spec.proofs.ListLaws.{not-both}
 use Rattle.model_spec.specs.declared.RuleSet.{RuleSet}
-use Rattle.model_spec.proofs.LoopLaws.{failed, passed}
 use Rattle.model_spec.proofs.ValidityLaws.{valid_iff}
 use Rattle.tables_spec.specs.Answers.{check_outcome, CheckMeaning}
 use Rattle.tables_spec.proofs.AnswerLaws.{check-judged, check_meaning}
@@ -18,7 +17,7 @@ answers set reach table r e = (sym e, subst (CheckMeaning set reach table) e (ch
 pub returns-then-not-is_valid : goal.returns-then-not-is_valid
 returns-then-not-is_valid c =
     let s = c.args in
-    let invalid = failed c.is_valid.ensures.0 c.if-not-is_valid.true-raw in
+    let invalid = sym c.is_valid.ensures.0 ∙ c.if-not-is_valid.true in
     answers s.set s.reach s.table.now 7
     ((check_meaning s.set s.reach s.table.now).not_valid.1
     (λ v. not-both ((valid_iff s.set).1 v) invalid))
@@ -26,11 +25,11 @@ returns-then-not-is_valid c =
 pub check_for-requires : goal.check_for-requires
 check_for-requires c =
     let s = c.args in
-    ((valid_iff s.set).0 (passed c.is_valid.ensures.0 c.if-not-is_valid.false-raw)).formed
+    ((valid_iff s.set).0 (sym c.is_valid.ensures.0 ∙ c.if-not-is_valid.false)).formed
 
 pub returns : goal.returns
 returns c =
     let s = c.args in
     answers s.set s.reach s.table.now _
     (check-judged s.set s.reach s.table.now
-    (passed c.is_valid.ensures.0 c.if-not-is_valid.false-raw) ∙ sym c.check_for.ensures)
+    (sym c.is_valid.ensures.0 ∙ c.if-not-is_valid.false) ∙ sym c.check_for.ensures)

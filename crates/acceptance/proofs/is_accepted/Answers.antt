@@ -5,7 +5,7 @@ use Prim.Native.Nat.{ℕ, ◌-◌, ◌<◌}
 use native.Mathlib.Omega.{arith}
 use Rattle.theory_spec.specs.Lists.{every, numbers_from}
 use Rattle.model_spec.specs.declared.RuleSet.{RuleSet}
-use Rattle.model_spec.proofs.LoopLaws.{every_go, every_stop, every-end, failed, passed}
+use Rattle.model_spec.proofs.LoopLaws.{every_go, every_stop, every-end}
 use Rattle.tables_spec.specs.Table.{table_entries, entry_justified, accepted}
 use Rattle.tables_spec.proofs.ReachLaws.{near_entries, near-justified}
 use Rattle.tables_spec.proofs.TableLaws.{accepted_entries}
@@ -31,7 +31,7 @@ returns-then-not-justified c =
     every_stop (entry_justified a.set a.reach a.table.now) c.loop-i.i (table_entries a.set a.reach) _
     c.loop-i.invariant h
     (sym (near-justified a.set a.reach c.requires.1 a.table.now c.loop-i.i h)
-    ∙ failed c.justified.ensures c.if-not-justified.true-raw)
+    ∙ sym c.justified.ensures ∙ c.if-not-justified.true)
 
 pub loop-i-preserved : goal.loop-i-preserved
 loop-i-preserved c =
@@ -40,7 +40,7 @@ loop-i-preserved c =
     every_go (entry_justified a.set a.reach a.table.now) c.loop-i.i (table_entries a.set a.reach) _
     c.loop-i.invariant h
     (sym (near-justified a.set a.reach c.requires.1 a.table.now c.loop-i.i h)
-    ∙ passed c.justified.ensures c.if-not-justified.false-raw)
+    ∙ sym c.justified.ensures ∙ c.if-not-justified.false)
 
 pub returns : goal.returns
 returns c =

@@ -6,7 +6,9 @@ use Rattle.tables_spec.specs.Table.{table_entries, entry_justified, accepted}
 use Rattle.acceptance.proofs.is_accepted.Given as goal
 
 abbrev pub invariant-loop-i : goal.invariant-loop-i
-invariant-loop-i l = every (entry_justified l.set l.reach l.table) (numbers_from l.i (table_entries l.set l.reach - l.i)) ≡ accepted l.set l.reach l.table
+invariant-loop-i l =
+    every (entry_justified l.set l.reach l.table) (numbers_from l.i (table_entries l.set l.reach - l.i))
+    ≡ accepted l.set l.reach l.table
 
 abbrev pub decreases-loop-i : goal.decreases-loop-i
 decreases-loop-i l = l.count - l.i

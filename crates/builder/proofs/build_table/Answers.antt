@@ -12,7 +12,6 @@ use Rattle.model_spec.specs.Refusals.{first_refusal}
 use Rattle.model_spec.specs.Validity.{valid}
 use Rattle.model_spec.specs.declared.RuleSet.{RuleSet}
 use Rattle.model_spec.proofs.BufferLaws.{filled-whole}
-use Rattle.model_spec.proofs.LoopLaws.{failed, passed}
 use Rattle.model_spec.proofs.ValidityLaws.{valid_iff}
 use Rattle.tables_spec.specs.Table.{built_table}
 use Rattle.tables_spec.specs.Answers.{shape_causes, build_outcome, built_buffer, BuildMeaning}
@@ -57,7 +56,7 @@ answers set reach size r table e t =
 pub returns-then-not-is_valid : goal.returns-then-not-is_valid
 returns-then-not-is_valid c =
     let s = c.args in
-    let invalid = failed c.is_valid.ensures.0 c.if-not-is_valid.true-raw in
+    let invalid = sym c.is_valid.ensures.0 ∙ c.if-not-is_valid.true in
     let size = length s.table.now in
     let e = (build_meaning s.set s.reach size).not_valid.1 (λ v. not-both ((valid_iff s.set).1 v) invalid) in
     let no : build_outcome s.set s.reach size ≢ 0 = λ z. omega (arith, e, z) in
@@ -67,13 +66,13 @@ returns-then-not-is_valid c =
 pub build_for-requires : goal.build_for-requires
 build_for-requires c =
     let s = c.args in
-    ((valid_iff s.set).0 (passed c.is_valid.ensures.0 c.if-not-is_valid.false-raw)).formed
+    ((valid_iff s.set).0 (sym c.is_valid.ensures.0 ∙ c.if-not-is_valid.false)).formed
 
 pub returns : goal.returns
 returns c =
     let s = c.args in
     let size = length s.table.now in
-    let v = passed c.is_valid.ensures.0 c.if-not-is_valid.false-raw in
+    let v = sym c.is_valid.ensures.0 ∙ c.if-not-is_valid.false in
     let w = build-judged s.set s.reach size v in
     answers s.set s.reach size _ _ (judged-answer s.set s.reach size v _ c.build_for.ensures.0)
     (c.build_for.ensures.1 ∙ sym w.1)

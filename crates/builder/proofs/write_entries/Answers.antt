@@ -62,32 +62,8 @@ entry_for-entry-requires c =
       own.1,
     )
 
-pub overflow_cast-table : goal.overflow_cast-table
-overflow_cast-table c = omega arith
-
-pub overflow_mul-table : goal.overflow_mul-table
-overflow_mul-table c = omega arith
-
-pub bounds-table-i : goal.bounds-table-i
-bounds-table-i c = omega arith
-
-pub overflow_cast-table-in-loop-i : goal.overflow_cast-table-in-loop-i
-overflow_cast-table-in-loop-i c = omega arith
-
-pub overflow_mul-table-in-loop-i : goal.overflow_mul-table-in-loop-i
-overflow_mul-table-in-loop-i c = omega arith
-
-pub overflow_add-table : goal.overflow_add-table
-overflow_add-table c = omega arith
-
 pub bounds-table-i-in-loop-i : goal.bounds-table-i-in-loop-i
 bounds-table-i-in-loop-i c = simp length-set (omega arith)
-
-pub overflow_add-i : goal.overflow_add-i
-overflow_add-i c = omega arith
-
-pub loop-i-smaller : goal.loop-i-smaller
-loop-i-smaller c = omega arith
 
 pub loop-i-preserved : goal.loop-i-preserved
 loop-i-preserved c =

@@ -8,7 +8,6 @@ use Rattle.theory_spec.proofs.ListLaws.{not-both}
 use Rattle.model_spec.specs.Refusals.{first_refusal}
 use Rattle.model_spec.specs.Validity.{valid, Valid}
 use Rattle.model_spec.specs.declared.RuleSet.{RuleSet}
-use Rattle.model_spec.proofs.LoopLaws.{failed, passed}
 use Rattle.model_spec.proofs.ValidityLaws.{valid_iff}
 use Rattle.tables_spec.specs.Answers.{mark_causes, CheckMeaning}
 use Rattle.tables_spec.proofs.AnswerLaws.{check-judged, check_meaning}
@@ -48,7 +47,7 @@ module _ (set : RuleSet) (reach : ℕ) (table : List ℕ) where
 pub returns-then-not-is_valid : goal.returns-then-not-is_valid
 returns-then-not-is_valid c =
     let s = c.args in
-    let invalid = failed c.is_valid.ensures.0 c.if-not-is_valid.true-raw in
+    let invalid = sym c.is_valid.ensures.0 ∙ c.if-not-is_valid.true in
     answers s.set s.reach s.table.now _
     (invalid-answer s.set s.reach s.table.now (λ v. not-both ((valid_iff s.set).1 v) invalid) _
     c.refused.ensures)
@@ -56,11 +55,11 @@ returns-then-not-is_valid c =
 pub check_for-requires : goal.check_for-requires
 check_for-requires c =
     let s = c.args in
-    ((valid_iff s.set).0 (passed c.is_valid.ensures.0 c.if-not-is_valid.false-raw)).formed
+    ((valid_iff s.set).0 (sym c.is_valid.ensures.0 ∙ c.if-not-is_valid.false)).formed
 
 pub returns : goal.returns
 returns c =
     let s = c.args in
     answers s.set s.reach s.table.now _
     (judged-answer s.set s.reach s.table.now
-    (passed c.is_valid.ensures.0 c.if-not-is_valid.false-raw) _ c.check_for.ensures)
+    (sym c.is_valid.ensures.0 ∙ c.if-not-is_valid.false) _ c.check_for.ensures)

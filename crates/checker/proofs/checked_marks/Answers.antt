@@ -59,7 +59,8 @@ next set valid reach near table i h before e after a =
 
 module _ (set : RuleSet) (reach : ℕ) (table : List ℕ) where
   -- all are left at first
-  whole : every (entry_justified set reach table) (numbers_from 0 (table_entries set reach - 0)) ≡ accepted set reach table
+  whole : every (entry_justified set reach table) (numbers_from 0 (table_entries set reach - 0))
+      ≡ accepted set reach table
   whole =
       let e : table_entries set reach - 0 ≡ table_entries set reach = omega arith in
       rw e (sym (accepted_entries set reach table))

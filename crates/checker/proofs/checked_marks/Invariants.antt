@@ -16,7 +16,8 @@ marks table k = not (eqb (entry_at table k) kept)
 
 abbrev pub invariant-loop-i : goal.invariant-loop-i
 invariant-loop-i l =
-    (every (entry_justified l.set l.reach l.table) (numbers_from l.i (table_entries l.set l.reach - l.i)) ≡ accepted l.set l.reach l.table)
+    (every (entry_justified l.set l.reach l.table) (numbers_from l.i (table_entries l.set l.reach - l.i))
+    ≡ accepted l.set l.reach l.table)
     × (l.touched ≡ united_to l.set l.reach (marks l.table) l.i)
     × (l.i ≤ table_entries l.set l.reach)
 

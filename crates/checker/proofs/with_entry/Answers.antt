@@ -7,7 +7,6 @@ use native.Mathlib.Omega.{arith}
 use lib.Dec.{eqb}
 use borrow.Author.Tests.{eq-eqb}
 use Rattle.model_spec.specs.declared.RuleSet.{RuleSet}
-use Rattle.model_spec.proofs.LoopLaws.{failed, passed}
 use Rattle.macros_spec.specs.declared.Touched.{Touched}
 use Rattle.tables_spec.specs.Table.{kept, entry_at, entry_justified}
 use Rattle.tables_laws.proofs.MarkLaws.{own_touched, mark_tested, kept-justified}
@@ -54,15 +53,25 @@ pub returns-then-not-witness_serves : goal.returns-then-not-witness_serves
 returns-then-not-witness_serves c =
     let s = c.args in
     let entry = c.entry_at-entry in
+    let own = c.profile_at-own in
+    let tested =
+    mark_tested s.set c.requires.0 3 (omega arith) s.i c.requires.2 own.result.vectors own.ensures.0 s.table.now
+    entry.result entry.ensures.0 c.if-entry-eq-KEPT.false own.result.cost own.ensures.1 _
+    c.witness_serves.ensures in
     turned_down s.set s.table.now s.i entry.result entry.ensures.0 s.before _
-    (failed ((let entry = c.entry_at-entry in mark_tested c.args.set c.requires.0 3 (omega arith) c.args.i c.requires.2 c.profile_at-own.result.vectors c.profile_at-own.ensures.0 c.args.table.now entry.result entry.ensures.0 c.if-entry-eq-KEPT.false c.profile_at-own.result.cost c.profile_at-own.ensures.1 _ c.witness_serves.ensures)) c.if-not-witness_serves.true-raw) _ c.refused.ensures
+    (sym tested ∙ c.if-not-witness_serves.true) _ c.refused.ensures
 
 pub returns : goal.returns
 returns c =
     let s = c.args in
     let entry = c.entry_at-entry in
+    let own = c.profile_at-own in
+    let tested =
+    mark_tested s.set c.requires.0 3 (omega arith) s.i c.requires.2 own.result.vectors own.ensures.0 s.table.now
+    entry.result entry.ensures.0 c.if-entry-eq-KEPT.false own.result.cost own.ensures.1 _
+    c.witness_serves.ensures in
     adds s.set s.table.now s.i entry.result entry.ensures.0 s.before _
-    (passed ((let entry = c.entry_at-entry in mark_tested c.args.set c.requires.0 3 (omega arith) c.args.i c.requires.2 c.profile_at-own.result.vectors c.profile_at-own.ensures.0 c.args.table.now entry.result entry.ensures.0 c.if-entry-eq-KEPT.false c.profile_at-own.result.cost c.profile_at-own.ensures.1 _ c.witness_serves.ensures)) c.if-not-witness_serves.false-raw) _ _
-    (own_touched s.set c.requires.0 3 (omega arith) s.i c.requires.2 c.profile_at-own.result.vectors
-    c.profile_at-own.ensures.0 s.wide c.requires.1)
+    (sym tested ∙ c.if-not-witness_serves.false) _ _
+    (own_touched s.set c.requires.0 3 (omega arith) s.i c.requires.2 own.result.vectors own.ensures.0 s.wide
+    c.requires.1)
     c.with_mark-touched.ensures

@@ -14,7 +14,8 @@ use Rattle.mark_output.proofs.touched_at.Goals as goal
 
 -- from the positions with two values or more, and the sequence's vectors
 sets_of : (set : RuleSet) (i wide : ℕ) (v : Vectors) → wide ≡ wide_positions set
-    → v ≡ as_vectors (composed set (short_sequence set.count i)) → touched_within wide (lines_of v) ≡ index_touched set i
+    → v ≡ as_vectors (composed set (short_sequence set.count i))
+    → touched_within wide (lines_of v) ≡ index_touched set i
 unfolding index_touched touched_in
 sets_of set i wide v e f =
     let m = composed set (short_sequence set.count i) in

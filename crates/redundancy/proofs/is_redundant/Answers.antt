@@ -80,8 +80,7 @@ returns-then-not-sequence c =
     let s = c.args in
     never-run s.set s.sequence s.cost s.witness.now _ c.last_number-last.ensures
     (sym c.has_unknown_move.ensures ∙ c.if-has_unknown_move.false)
-    (sym c.costs_at_most.ensures ∙ c.if-not-costs_at_most.false)
-    (not-true _ c.if-not-sequence.true)
+    (sym c.costs_at_most.ensures ∙ c.if-not-costs_at_most.false) (not-true _ c.if-not-sequence.true)
 
 pub leads-requires : goal.leads-requires
 leads-requires c =

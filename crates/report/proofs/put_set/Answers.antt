@@ -26,13 +26,19 @@ module _ (set : RuleSet) (valid : Valid set) (entries : ℕ) (e : entries ≡ se
   part-fits = part_length ∙ ap (λ n. 2 * n) e
 
 pub overflow_mul-size : goal.overflow_mul-size
-overflow_mul-size c = omega (arith, part_limit c.args.set c.requires c.sequence_count-size.result c.sequence_count-size.ensures)
+overflow_mul-size c =
+    let size = c.sequence_count-size in
+    omega (arith, part_limit c.args.set c.requires size.result size.ensures)
 
 pub slice_bounds-table-end : goal.slice_bounds-table-end
-slice_bounds-table-end c = part_limit c.args.set c.requires c.sequence_count-size.result c.sequence_count-size.ensures
+slice_bounds-table-end c = let size = c.sequence_count-size in part_limit c.args.set c.requires size.result size.ensures
 
 pub slice_bounds-put_built-end : goal.slice_bounds-put_built-end
-slice_bounds-put_built-end c = sym (part_length c.args.set c.requires c.sequence_count-size.result c.sequence_count-size.ensures)
+slice_bounds-put_built-end c =
+    let size = c.sequence_count-size in
+    sym (part_length c.args.set c.requires size.result size.ensures)
 
 pub put_built-requires : goal.put_built-requires
-put_built-requires c = (c.requires, part-fits c.args.set c.requires c.sequence_count-size.result c.sequence_count-size.ensures)
+put_built-requires c =
+    let size = c.sequence_count-size in
+    (c.requires, part-fits c.args.set c.requires size.result size.ensures)

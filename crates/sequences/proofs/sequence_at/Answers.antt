@@ -28,28 +28,34 @@ loop-start-init c =
 pub returns-then-rest-eq0 : goal.returns-then-rest-eq0
 returns-then-rest-eq0 c =
     let m = c.rule_count-many.result in
-    let none = sequence-end m c.loop-start.start c.loop-start.rest c.if-rest-eq0.true in
-    (c.loop-start.invariant.2, ended m c.loop-start.start c.loop-start.rest c.loop-start.rules _ c.loop-start.invariant.4 none)
+    let l = c.loop-start in
+    let none = sequence-end m l.start l.rest c.if-rest-eq0.true in
+    (l.invariant.2, ended m l.start l.rest l.rules _ l.invariant.4 none)
 
 pub overflow_cast-rules : goal.overflow_cast-rules
-overflow_cast-rules c = omega (arith, mod-lt (c.loop-start.rest - 1) {m = c.rule_count-many.result} c.loop-start.invariant.0)
+overflow_cast-rules c =
+    let l = c.loop-start in
+    omega (arith, mod-lt (l.rest - 1) {m = c.rule_count-many.result} l.invariant.0)
 
 pub overflow_add-rules : goal.overflow_add-rules
-overflow_add-rules c = omega (arith, mod-lt (c.loop-start.rest - 1) {m = c.rule_count-many.result} c.loop-start.invariant.0)
+overflow_add-rules c =
+    let l = c.loop-start in
+    omega (arith, mod-lt (l.rest - 1) {m = c.rule_count-many.result} l.invariant.0)
 
 pub loop-start-preserved : goal.loop-start-preserved
 loop-start-preserved c =
-    let m = c.rule_count-many.result in (
-      c.loop-start.invariant.0,
-      c.loop-start.invariant.1,
+    let m = c.rule_count-many.result in
+    let l = c.loop-start in (
+      l.invariant.0,
+      l.invariant.1,
       search rules,
-      length-set c.loop-start.rules _ _ ∙ c.loop-start.invariant.3,
-      c.loop-start.invariant.4 ∙ sequence_go m c.loop-start.start c.loop-start.rest c.loop-start.rules (omega arith) (omega arith)
-          (omega arith),
+      length-set l.rules _ _ ∙ l.invariant.3,
+      l.invariant.4 ∙ sequence_go m l.start l.rest l.rules (omega arith) (omega arith) (omega arith),
     )
 
 pub returns : goal.returns
 returns c =
     let m = c.rule_count-many.result in
-    let none = sequence_full m c.loop-start.start c.loop-start.rest c.loop-start-test.false in
-    (c.loop-start.invariant.2, ended m c.loop-start.start c.loop-start.rest c.loop-start.rules _ c.loop-start.invariant.4 none)
+    let l = c.loop-start in
+    let none = sequence_full m l.start l.rest c.loop-start-test.false in
+    (l.invariant.2, ended m l.start l.rest l.rules _ l.invariant.4 none)

@@ -9,15 +9,6 @@ use Rattle.table_output.proofs.count_marks.Goals.{then-entry_at-ne-KEPT, else-en
 pub loop-i-init : goal.loop-i-init
 loop-i-init c = (omega arith, omega arith, omega (arith, ap length (marks_all c.args.table.now)))
 
-pub overflow_add-marks : goal.overflow_add-marks
-overflow_add-marks c = omega arith
-
-pub overflow_add-i : goal.overflow_add-i
-overflow_add-i c = omega arith
-
-pub loop-i-smaller : goal.loop-i-smaller
-loop-i-smaller c = omega arith
-
 pub loop-i-preserved : goal.loop-i-preserved
 loop-i-preserved c =
     let l = c.loop-i in

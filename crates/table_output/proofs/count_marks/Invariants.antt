@@ -7,7 +7,10 @@ use Rattle.report_laws.proofs.MarkLoopLaws.{marks_from}
 use Rattle.table_output.proofs.count_marks.Given as goal
 
 abbrev pub invariant-loop-i : goal.invariant-loop-i
-invariant-loop-i l = (l.marks ≤ l.i) × (l.i ≤ length l.table / 2) × (l.marks + length (marks_from l.table l.i) ≡ length (table_marks l.table))
+invariant-loop-i l =
+    (l.marks ≤ l.i)
+    × (l.i ≤ length l.table / 2)
+    × (l.marks + length (marks_from l.table l.i) ≡ length (table_marks l.table))
 
 abbrev pub decreases-loop-i : goal.decreases-loop-i
 decreases-loop-i l = length l.table / 2 - l.i

@@ -9,12 +9,6 @@ loop-i-init c =
     let s = c.args in
     (omega arith, rw (lines_all s.table.now s.set) (remains_all _ _ _))
 
-pub overflow_add-i : goal.overflow_add-i
-overflow_add-i c = omega arith
-
-pub loop-i-smaller : goal.loop-i-smaller
-loop-i-smaller c = omega arith
-
 pub loop-i-preserved : goal.loop-i-preserved
 loop-i-preserved c =
     let l = c.loop-i in

@@ -7,7 +7,9 @@ use Rattle.report_laws.proofs.MarkLoopLaws.{lines_from}
 use Rattle.table_output.proofs.put_marks.Given as goal
 
 abbrev pub invariant-loop-i : goal.invariant-loop-i
-invariant-loop-i l = (l.i ≤ length l.table / 2) × Remains l.at (marks_text l.set l.table) l.initial.text l.next (lines_from l.table l.set l.i) l.text
+invariant-loop-i l =
+    (l.i ≤ length l.table / 2)
+    × Remains l.at (marks_text l.set l.table) l.initial.text l.next (lines_from l.table l.set l.i) l.text
 
 abbrev pub decreases-loop-i : goal.decreases-loop-i
 decreases-loop-i l = length l.table / 2 - l.i

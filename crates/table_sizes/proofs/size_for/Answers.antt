@@ -28,5 +28,6 @@ unfolding table_entries
 returns c =
     let s = c.args in
     let e : min s.reach 3 ≡ s.reach = omega arith in
-    ap (λ n. record { outcome = 0; length = 2 * n }) (c.sequence_count-length.ensures ∙ ap (sequence_count s.set.count) e)
+    ap (λ n. record { outcome = 0; length = 2 * n })
+    (c.sequence_count-length.ensures ∙ ap (sequence_count s.set.count) e)
     ∙ sym (ap (size_with s.set s.reach) (reach-passed s.set s.reach (omega arith, omega arith)))

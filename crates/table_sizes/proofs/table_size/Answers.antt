@@ -4,7 +4,6 @@ use Prim.Native.Nat.{ℕ}
 use native.Mathlib.Omega.{arith}
 use Rattle.theory_spec.proofs.ListLaws.{not-both}
 use Rattle.model_spec.specs.declared.RuleSet.{RuleSet}
-use Rattle.model_spec.proofs.LoopLaws.{failed, passed}
 use Rattle.model_spec.proofs.ValidityLaws.{valid_iff}
 use Rattle.tables_spec.specs.declared.TableSize.{TableSize}
 use Rattle.tables_spec.specs.Answers.{table_size, SizeMeaning}
@@ -19,7 +18,7 @@ answers set reach r e = (sym e, subst (SizeMeaning set reach) e (size_meaning se
 pub returns-then-not-is_valid : goal.returns-then-not-is_valid
 returns-then-not-is_valid c =
     let s = c.args in
-    let invalid = failed c.is_valid.ensures.0 c.if-not-is_valid.true-raw in
+    let invalid = sym c.is_valid.ensures.0 ∙ c.if-not-is_valid.true in
     let e = (size_meaning s.set s.reach).not_valid.1 (λ v. not-both ((valid_iff s.set).1 v) invalid) in
     answers s.set s.reach _ (size-refused s.set s.reach 7 (λ z. omega arith) e)
 
@@ -27,4 +26,4 @@ pub returns : goal.returns
 returns c =
     let s = c.args in
     answers s.set s.reach _ (size-judged s.set s.reach
-    (passed c.is_valid.ensures.0 c.if-not-is_valid.false-raw) ∙ sym c.size_for.ensures)
+    (sym c.is_valid.ensures.0 ∙ c.if-not-is_valid.false) ∙ sym c.size_for.ensures)

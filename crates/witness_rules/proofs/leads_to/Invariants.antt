@@ -11,7 +11,8 @@ use Rattle.witness_rules.proofs.leads_to.Given as goal
 abbrev pub invariant-loop-i : goal.invariant-loop-i
 invariant-loop-i l =
     (l.i ≤ 16)
-    × (same (map (λ e. value_of e l.entries) (drop l.i l.effect)) (drop l.i l.target) ≡ same (successor l.effect l.entries) l.target)
+    × (same (map (λ e. value_of e l.entries) (drop l.i l.effect)) (drop l.i l.target)
+    ≡ same (successor l.effect l.entries) l.target)
 
 abbrev pub decreases-loop-i : goal.decreases-loop-i
 decreases-loop-i l = 16 - l.i

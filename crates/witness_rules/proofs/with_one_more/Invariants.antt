@@ -13,7 +13,8 @@ abbrev pub invariant-loop-k : goal.invariant-loop-k
 invariant-loop-k l =
     let lines : Option Lines = some (record { condition = l.entries; effect = l.target }) in
     (l.k ≤ l.set.count)
-    × (from_rule l.set l.entries l.target l.left l.index 0 l.k ≡ first_witness l.set l.index lines l.left (level l.set.count 1))
+    × (from_rule l.set l.entries l.target l.left l.index 0 l.k
+    ≡ first_witness l.set l.index lines l.left (level l.set.count 1))
 
 abbrev pub decreases-loop-k : goal.decreases-loop-k
 decreases-loop-k l = l.set.count - l.k

@@ -74,8 +74,8 @@ loop-more-init c =
 
 pub with_more-found-requires : goal.with_more-found-requires
 with_more-found-requires c =
-    let count = c.args.set.count in
-    (c.loop-more.invariant.0, omega arith, c.if-set-gt-MAX_RULES.false, omega (arith, count_levels count (3 - c.loop-more.more)))
+    let levels = count_levels c.args.set.count (3 - c.loop-more.more) in
+    (c.loop-more.invariant.0, omega arith, c.if-set-gt-MAX_RULES.false, omega (arith, levels))
 
 pub returns-then-found-ne-KEPT : goal.returns-then-found-ne-KEPT
 returns-then-found-ne-KEPT c =
