@@ -2,7 +2,6 @@
 use mathlib.Core.Path.{◌≡◌, refl}
 use mathlib.Core.Bool.{Bool, true, false}
 use Prim.Native.Nat.{ℕ, min}
-use borrow.Author.Tests.{not-true, not-false}
 use Rattle.search_laws.specs.How.Visits.{floor_shown}
 use Rattle.search_progress.proofs.floor_shown.Goals as goal
 
@@ -18,9 +17,9 @@ module _ (exceeded : Bool) (cost least r : ℕ) where
 pub returns-then-not-exceeded : goal.returns-then-not-exceeded
 returns-then-not-exceeded c =
     let a = c.args in
-    within a.exceeded a.cost a.least _ (not-true a.exceeded c.if-not-exceeded.true-raw) refl
+    within a.exceeded a.cost a.least _ c.if-not-exceeded.true refl
 
 pub returns : goal.returns
 returns c =
     let a = c.args in
-    beyond a.exceeded a.cost a.least _ (not-false a.exceeded c.if-not-exceeded.false-raw) c.lower.ensures
+    beyond a.exceeded a.cost a.least _ c.if-not-exceeded.false c.lower.ensures

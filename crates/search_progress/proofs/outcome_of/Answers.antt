@@ -1,5 +1,4 @@
 -- `search_progress::outcome_of` meets its contract.
-use borrow.Author.Tests.{not-true, not-false}
 use Rattle.search_laws.specs.How.Visits.{outcome_of}
 use Rattle.search_progress.proofs.outcome_of.Goals as goal
 
@@ -13,8 +12,8 @@ returns-then-exceeded c = rw (c.if-exceeded.true, c.if-found.false)
 
 pub returns-then-not-found : goal.returns-then-not-found
 unfolding outcome_of
-returns-then-not-found c = rw (c.if-exceeded.false, not-true c.args.found c.if-not-found.true-raw)
+returns-then-not-found c = rw (c.if-exceeded.false, c.if-not-found.true)
 
 pub returns : goal.returns
 unfolding outcome_of
-returns c = rw (c.if-exceeded.false, not-false c.args.found c.if-not-found.false-raw)
+returns c = rw (c.if-exceeded.false, c.if-not-found.false)

@@ -1,3 +1,4 @@
+-- The invariant: the bytes so far stand at the front of the buffer, and the input lost just these.
 use Rattle.std.proofs.Common.{◌≡◌, ◌≤◌, ◌-◌, length, take}
 use Rattle.std.specs.Io.KnownBytes.{Consumes}
 use Rattle.standard_input.proofs.read_full.Given as goal
