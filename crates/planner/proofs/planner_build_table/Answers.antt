@@ -1,6 +1,5 @@
 -- `planner::planner_build_table` meets its contract: the answer is packed, and can be taken apart.
 use lib.ListN.{length}
-use borrow.Author.Rules.{rules}
 use Rattle.planner_spec.proofs.TextTableLaws.{build-packed}
 use Rattle.planner.proofs.planner_build_table.Goals as goal
 

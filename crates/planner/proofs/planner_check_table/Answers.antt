@@ -1,5 +1,4 @@
 -- `planner::planner_check_table` meets its contract: the answer is packed, and can be taken apart.
-use borrow.Author.Rules.{rules}
 use Rattle.planner_spec.proofs.TextTableLaws.{check-packed}
 use Rattle.planner.proofs.planner_check_table.Goals as goal
 

@@ -1,5 +1,4 @@
 -- `planner::planner_macro` meets its contract, which is that of `text_macros::macro_of`.
-use borrow.Author.Rules.{rules}
 use Rattle.planner.proofs.planner_macro.Goals as goal
 
 pub returns : goal.returns

@@ -1,6 +1,5 @@
 -- `planner::planner_read` meets its contract: the reading's outcome, with its meaning.
 use mathlib.Core.Path.{ap}
-use borrow.Author.Rules.{rules}
 use Rattle.files_spec.specs.declared.Reading.{Reading}
 use Rattle.planner.proofs.planner_read.Goals as goal
 

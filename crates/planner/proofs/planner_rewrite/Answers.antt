@@ -1,6 +1,5 @@
 -- `planner::planner_rewrite` meets its contract: outcome and length are packed, and can be taken apart.
 use lib.ListN.{length}
-use borrow.Author.Rules.{rules}
 use Rattle.planner_spec.proofs.RewritingLaws.{rewrite-packed}
 use Rattle.planner.proofs.planner_rewrite.Goals as goal
 

@@ -1,5 +1,4 @@
 -- `planner::planner_table_size` meets its contract: the answer for the text is packed, and can be taken apart.
-use borrow.Author.Rules.{rules}
 use Rattle.planner_spec.proofs.TextTableLaws.{size-packed}
 use Rattle.planner.proofs.planner_table_size.Goals as goal
 
