@@ -15,7 +15,8 @@ pub returns-then-plan_cost-cost : goal.returns-then-plan_cost-cost
 returns-then-plan_cost-cost c =
     let s = c.args in
     let told = c.cost_of-plan_cost.ensures in
-    let mine : c.cost_of-cost.result ≡ sequence_cost s.set s.moves.now = omega (arith, c.cost_of-cost.ensures, c.requires) in
+    let mine : c.cost_of-cost.result ≡ sequence_cost s.set s.moves.now =
+    omega (arith, c.cost_of-cost.ensures, c.requires) in
     let bound = c.requires in
     let dearer : sequence_cost s.set s.plan.now < sequence_cost s.set s.moves.now = omega arith in
     let theirs : c.cost_of-plan_cost.result ≡ sequence_cost s.set s.plan.now = omega arith in

@@ -25,7 +25,8 @@ pub returns-then-depth-eq0 : goal.returns-then-depth-eq0
 returns-then-depth-eq0 c =
     let m = c.args.count in
     let first : 1 ≡ 0 * m + 1 = omega arith in
-    first ∙ ap (λ i. i * m + 1) (sym (last_empty m (min (c.args.reach - 1) 2) c.args.depth c.args.plan.now c.if-depth-eq0.true))
+    first ∙ ap (λ i. i * m + 1)
+    (sym (last_empty m (min (c.args.reach - 1) 2) c.args.depth c.args.plan.now c.if-depth-eq0.true))
 
 pub returns-then-reach-eq2 : goal.returns-then-reach-eq2
 returns-then-reach-eq2 c =

@@ -31,7 +31,8 @@ tail_index-tail-requires c =
     let within : i < sequence_count rules 3 =
     omega (arith, c.loop-i-test.true, c.smaller-end.ensures, c.sequence_count.ensures) in
     let few : rules ≤ 31 = omega (arith, c.at_most-rules.ensures) in
-    (some-rule rules i (sequence_count rules 3) c.loop-i.invariant.0 within (omega arith), few, c.loop-i.invariant.0, within)
+    let some = some-rule rules i (sequence_count rules 3) c.loop-i.invariant.0 within (omega arith) in
+    (some, few, c.loop-i.invariant.0, within)
 
 pub bounds-blocked-tail : goal.bounds-blocked-tail
 bounds-blocked-tail c =
@@ -56,7 +57,8 @@ loop-i-preserved c =
     let within : i < sequence_count rules 3 =
     omega (arith, c.loop-i-test.true, c.smaller-end.ensures, c.sequence_count.ensures) in
     let few : rules ≤ 31 = omega (arith, c.at_most-rules.ensures) in
-    let room : i < length blocked = omega (arith, within, count_bound rules 3 few (omega arith), c.loop-i.invariant.1) in
+    let room : i < length blocked =
+    omega (arith, within, count_bound rules 3 few (omega arith), c.loop-i.invariant.1) in
     let writes : Bool → ℕ = λ b. cond b 1 (get_or blocked tail.result 0) in
     let write : block ≡ writes (not (eqb (entry_at table i) kept)) = elim c.if-entry_at-ne-KEPT.branch [
       | then-entry_at-ne-KEPT w ↦ w.block-is ∙ ap (λ b. writes (not b))

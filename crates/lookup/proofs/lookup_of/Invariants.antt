@@ -6,7 +6,9 @@ use Rattle.search_laws.proofs.LookupLaws.{LooksUpTo, BlankFrom}
 use Rattle.lookup.proofs.lookup_of.Given as goal
 
 abbrev pub invariant-loop-i : goal.invariant-loop-i
-invariant-loop-i l = (1 ≤ l.i) × (length l.blocked ≡ 30784) × LooksUpTo l.rules l.table l.blocked l.i × BlankFrom l.blocked l.i l.end
+invariant-loop-i l =
+    (1 ≤ l.i) × (length l.blocked ≡ 30784) × LooksUpTo l.rules l.table l.blocked l.i
+    × BlankFrom l.blocked l.i l.end
 
 abbrev pub decreases-loop-i : goal.decreases-loop-i
 decreases-loop-i l = l.end - l.i

@@ -14,7 +14,8 @@ invariant-loop-i l =
     (l.i ≤ length l.moves)
     × (l.total ≡ sequence_cost l.set (take l.i l.moves))
     × (l.total ≤ l.max_cost)
-    × (first_behind (λ k. ltb l.max_cost (sequence_cost l.set (take k l.moves))) (length l.moves) l.i ≡ costly_move l.set l.max_cost l.moves)
+    × (first_behind (λ k. ltb l.max_cost (sequence_cost l.set (take k l.moves))) (length l.moves) l.i
+    ≡ costly_move l.set l.max_cost l.moves)
 
 abbrev pub decreases-loop-i : goal.decreases-loop-i
 decreases-loop-i l = length l.moves - l.i

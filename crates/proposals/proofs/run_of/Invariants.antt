@@ -17,7 +17,8 @@ invariant-loop-i l =
     let q = held_moves l.moves in
     (l.i ≤ length l.moves)
     × (run_in l.set (take l.i q) l.start ≡ some l.state)
-    × (first_behind (λ k. not (is_some (run_in l.set (take k q) l.start))) (length q) l.i ≡ failing_move l.set l.start q)
+    × (first_behind (λ k. not (is_some (run_in l.set (take k q) l.start))) (length q) l.i
+    ≡ failing_move l.set l.start q)
 
 abbrev pub decreases-loop-i : goal.decreases-loop-i
 decreases-loop-i l = length l.moves - l.i

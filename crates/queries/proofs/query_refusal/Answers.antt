@@ -24,13 +24,14 @@ returns-then-checked-ne14 c cost limit =
     let a = c.args in
     let query = asked a.reach a.table.now a.start.now a.goal.now a.max_moves cost limit in
     let e = c.check_outcome-checked.ensures.0 in
-    e ∙ shared_refusal a.set query a.plan_size (λ k. c.if-checked-ne0.true (e ∙ k)) (λ k. c.if-checked-ne14.true (e ∙ k))
+    e ∙ shared_refusal a.set query a.plan_size (λ k. c.if-checked-ne0.true (e ∙ k))
+    (λ k. c.if-checked-ne14.true (e ∙ k))
 
 pub start_fits-requires : goal.start_fits-requires
 start_fits-requires c =
     let a = c.args in
     let ready = judged a.set a.reach a.table.now _ c.check_outcome-checked.ensures.0 (elim c.if-checked-ne0.branch [
-        then-checked-ne0+else-checked-ne14 w ↦ inl w.if-checked-ne14.false
+      | then-checked-ne0+else-checked-ne14 w ↦ inl w.if-checked-ne14.false
       | else-checked-ne0 w ↦ inr w.if-checked-ne0.false
     ]) in
     ready.0.formed.position_limits.1
@@ -39,7 +40,7 @@ pub returns-then-not-start_fits : goal.returns-then-not-start_fits
 returns-then-not-start_fits c cost limit =
     let a = c.args in
     let ready = judged a.set a.reach a.table.now _ c.check_outcome-checked.ensures.0 (elim c.if-checked-ne0.branch [
-        then-checked-ne0+else-checked-ne14 w ↦ inl w.if-checked-ne14.false
+      | then-checked-ne0+else-checked-ne14 w ↦ inl w.if-checked-ne14.false
       | else-checked-ne0 w ↦ inr w.if-checked-ne0.false
     ]) in
     let query = asked a.reach a.table.now a.start.now a.goal.now a.max_moves cost limit in
@@ -49,7 +50,7 @@ pub goal_fits-requires : goal.goal_fits-requires
 goal_fits-requires c =
     let a = c.args in
     let ready = judged a.set a.reach a.table.now _ c.check_outcome-checked.ensures.0 (elim c.if-checked-ne0.branch [
-        then-checked-ne0+else-checked-ne14 w ↦ inl w.if-checked-ne14.false
+      | then-checked-ne0+else-checked-ne14 w ↦ inl w.if-checked-ne14.false
       | else-checked-ne0 w ↦ inr w.if-checked-ne0.false
     ]) in
     ready.0.formed.position_limits.1
@@ -58,7 +59,7 @@ pub returns-then-not-goal_fits : goal.returns-then-not-goal_fits
 returns-then-not-goal_fits c cost limit =
     let a = c.args in
     let ready = judged a.set a.reach a.table.now _ c.check_outcome-checked.ensures.0 (elim c.if-checked-ne0.branch [
-        then-checked-ne0+else-checked-ne14 w ↦ inl w.if-checked-ne14.false
+      | then-checked-ne0+else-checked-ne14 w ↦ inl w.if-checked-ne14.false
       | else-checked-ne0 w ↦ inr w.if-checked-ne0.false
     ]) in
     let query = asked a.reach a.table.now a.start.now a.goal.now a.max_moves cost limit in
@@ -70,7 +71,7 @@ pub returns-then-max_moves-gt-MOVE_LIMIT : goal.returns-then-max_moves-gt-MOVE_L
 returns-then-max_moves-gt-MOVE_LIMIT c cost limit =
     let a = c.args in
     let ready = judged a.set a.reach a.table.now _ c.check_outcome-checked.ensures.0 (elim c.if-checked-ne0.branch [
-        then-checked-ne0+else-checked-ne14 w ↦ inl w.if-checked-ne14.false
+      | then-checked-ne0+else-checked-ne14 w ↦ inl w.if-checked-ne14.false
       | else-checked-ne0 w ↦ inr w.if-checked-ne0.false
     ]) in
     let query = asked a.reach a.table.now a.start.now a.goal.now a.max_moves cost limit in
@@ -82,7 +83,7 @@ pub returns-then-plan_size-max_moves : goal.returns-then-plan_size-max_moves
 returns-then-plan_size-max_moves c cost limit =
     let a = c.args in
     let ready = judged a.set a.reach a.table.now _ c.check_outcome-checked.ensures.0 (elim c.if-checked-ne0.branch [
-        then-checked-ne0+else-checked-ne14 w ↦ inl w.if-checked-ne14.false
+      | then-checked-ne0+else-checked-ne14 w ↦ inl w.if-checked-ne14.false
       | else-checked-ne0 w ↦ inr w.if-checked-ne0.false
     ]) in
     let query = asked a.reach a.table.now a.start.now a.goal.now a.max_moves cost limit in
@@ -95,7 +96,7 @@ pub returns : goal.returns
 returns c cost limit =
     let a = c.args in
     let ready = judged a.set a.reach a.table.now _ c.check_outcome-checked.ensures.0 (elim c.if-checked-ne0.branch [
-        then-checked-ne0+else-checked-ne14 w ↦ inl w.if-checked-ne14.false
+      | then-checked-ne0+else-checked-ne14 w ↦ inl w.if-checked-ne14.false
       | else-checked-ne0 w ↦ inr w.if-checked-ne0.false
     ]) in
     let query = asked a.reach a.table.now a.start.now a.goal.now a.max_moves cost limit in

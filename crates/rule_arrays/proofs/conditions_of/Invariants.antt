@@ -7,7 +7,8 @@ use Rattle.model_spec.proofs.CopyLaws.{copied}
 use Rattle.rule_arrays.proofs.conditions_of.Given as goal
 
 abbrev pub invariant-loop-i : goal.invariant-loop-i
-invariant-loop-i l = (l.i ≤ 31) × (l.conditions ≡ copied l.initial.conditions (map (λ rule. rule.condition) l.set.rules) l.i)
+invariant-loop-i l =
+    (l.i ≤ 31) × (l.conditions ≡ copied l.initial.conditions (map (λ rule. rule.condition) l.set.rules) l.i)
 
 abbrev pub decreases-loop-i : goal.decreases-loop-i
 decreases-loop-i l = 31 - l.i

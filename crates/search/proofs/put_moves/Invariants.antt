@@ -7,7 +7,8 @@ use Rattle.model_spec.proofs.CopyLaws.{copied}
 use Rattle.search.proofs.put_moves.Given as goal
 
 abbrev pub invariant-loop-i : goal.invariant-loop-i
-invariant-loop-i l = (l.i ≤ l.end) × (length l.plan ≡ length l.initial.plan) × (l.plan ≡ copied l.initial.plan l.entries l.i)
+invariant-loop-i l =
+    (l.i ≤ l.end) × (length l.plan ≡ length l.initial.plan) × (l.plan ≡ copied l.initial.plan l.entries l.i)
 
 abbrev pub decreases-loop-i : goal.decreases-loop-i
 decreases-loop-i l = l.end - l.i

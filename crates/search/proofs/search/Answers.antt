@@ -55,7 +55,8 @@ put_moves-requires c =
     let progress = c.explored-found.result.progress in
     let unrefused = sym e ∙ c.if-found-ne0.false in
     let is = explored_progress a.set query room _ found c.if-found-ne0.false in
-    let fits = explored-room a.set query room unrefused progress is (not-false progress.best.found c.if-not-best.false) in
+    let some = not-false progress.best.found c.if-not-best.false in
+    let fits = explored-room a.set query room unrefused progress is some in
     (fits.0, subst (λ n. progress.best.length ≤ n) (sym same) fits.1)
 
 pub returns : goal.returns
@@ -71,7 +72,8 @@ returns c =
     let unrefused = sym e ∙ c.if-found-ne0.false in
     let is = explored_progress a.set query room _ found c.if-found-ne0.false in
     let buffer = c.fill_from.new.buffer in
-    let left = explored-shown a.set query room unrefused progress is (not-false progress.best.found c.if-not-best.false) _ _
+    let some = not-false progress.best.found c.if-not-best.false in
+    let left = explored-shown a.set query room unrefused progress is some _ _
     c.outcome_of-outcome.ensures c.floor_shown-floor.ensures buffer filled in
     answers a.set query room _ _
     (left_with c.outcome_of-outcome.result progress.best progress.steps c.floor_shown-floor.result buffer) refl

@@ -30,4 +30,5 @@ returns-else-replaces c =
 
 pub returns-else-meets_goal : goal.returns-else-meets_goal
 unfolding noted_moves best_at
-returns-else-meets_goal c = rw (lt-ltb _ _ c.if-step_limit-progress.false, sym c.meets_goal.ensures ∙ c.if-meets_goal.false)
+returns-else-meets_goal c =
+    rw (lt-ltb _ _ c.if-step_limit-progress.false, sym c.meets_goal.ensures ∙ c.if-meets_goal.false)

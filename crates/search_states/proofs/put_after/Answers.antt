@@ -29,5 +29,6 @@ loop-i-preserved c =
 pub returns : goal.returns
 returns c =
     let positions = c.args.positions in
-    let all : c.loop-i.i ≡ min positions 16 = omega (arith, c.loop-i-test.false, c.loop-i.invariant.0, c.smaller-end.ensures) in
+    let all : c.loop-i.i ≡ min positions 16 =
+    omega (arith, c.loop-i-test.false, c.loop-i.invariant.0, c.smaller-end.ensures) in
     c.loop-i.invariant.1 ∙ rw all

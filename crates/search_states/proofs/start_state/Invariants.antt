@@ -7,7 +7,8 @@ use Rattle.model_spec.proofs.CopyLaws.{copied}
 use Rattle.search_states.proofs.start_state.Given as goal
 
 abbrev pub invariant-loop-i : goal.invariant-loop-i
-invariant-loop-i l = (l.i ≤ l.end) × (l.end ≡ length (take 16 l.start)) × (l.state ≡ copied l.initial.state (take 16 l.start) l.i)
+invariant-loop-i l =
+    (l.i ≤ l.end) × (l.end ≡ length (take 16 l.start)) × (l.state ≡ copied l.initial.state (take 16 l.start) l.i)
 
 abbrev pub decreases-loop-i : goal.decreases-loop-i
 decreases-loop-i l = l.end - l.i

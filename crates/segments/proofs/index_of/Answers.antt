@@ -9,7 +9,8 @@ use Rattle.explain_laws.proofs.SegmentLoopLaws.{index_more, limit_more, limit_sm
 use Rattle.segments.proofs.index_of.Goals as goal
 
 pub loop-i-init : goal.loop-i-init
-loop-i-init c = (omega arith, omega (arith, c.smaller-end.ensures, length-take 3 c.args.sequence.now), refl, limit-start)
+loop-i-init c =
+    (omega arith, omega (arith, c.smaller-end.ensures, length-take 3 c.args.sequence.now), refl, limit-start)
 
 pub overflow_mul-index : goal.overflow_mul-index
 overflow_mul-index c =

@@ -10,7 +10,8 @@ loop-end-init c = (omega arith, ends-start _ _ _ _)
 pub returns-then-many-ne0 : goal.returns-then-many-ne0
 returns-then-many-ne0 c =
     let told = c.shortest_at-many.ensures in
-    let w = ends_stop _ _ _ _ c.loop-end.end c.loop-end.invariant.1 (omega arith) (λ z. c.if-many-ne0.true (told ∙ z)) in
+    let w = ends_stop _ _ _ _ c.loop-end.end c.loop-end.invariant.1 (omega arith)
+    (λ z. c.if-many-ne0.true (told ∙ z)) in
     (w.0, told ∙ w.1)
 
 pub loop-end-preserved : goal.loop-end-preserved

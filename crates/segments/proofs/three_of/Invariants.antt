@@ -7,7 +7,8 @@ use Rattle.model_spec.proofs.CopyLaws.{copied}
 use Rattle.segments.proofs.three_of.Given as goal
 
 abbrev pub invariant-loop-i : goal.invariant-loop-i
-invariant-loop-i l = (l.i ≤ l.end) × (l.end ≡ length (take 3 l.sequence)) × (l.rules ≡ copied l.initial.rules (take 3 l.sequence) l.i)
+invariant-loop-i l =
+    (l.i ≤ l.end) × (l.end ≡ length (take 3 l.sequence)) × (l.rules ≡ copied l.initial.rules (take 3 l.sequence) l.i)
 
 abbrev pub decreases-loop-i : goal.decreases-loop-i
 decreases-loop-i l = l.end - l.i
