@@ -7,7 +7,7 @@ use native.Mathlib.Nat.{min-eq_left, min-eq_right}
 use native.Mathlib.Numerals.{add-one}
 use native.Mathlib.Omega.{arith}
 use lib.ListN.{length, get_or, set, take, drop, length-map, length-drop, drop_of_length-le, get_or-map}
-use lib.Seq.{take_all, drop-cons, paste, paste-suc}
+use lib.Seq.{take_all, take-length, drop-cons, paste, paste-suc}
 use Rattle.std.specs.List.{position}
 use Rattle.std.specs.Option.{unwrap_or}
 use Rattle.std.proofs.Common.{not, cond, eqb, ltb, Some, None}
@@ -26,6 +26,11 @@ decoded_more old input i l x h k e v =
     let turn = paste-suc old 0 new i (line_fed 0) (omega arith) (omega (arith, length-map input line_fed)) in
     rw (e, v ∙ sym (get_or-map line_fed input i 0), add-one i)
     (subst (λ j. set (paste old 0 new i) j (get_or new i (line_fed 0)) ≡ paste old 0 new (suc i)) front turn)
+
+-- the first place in the whole of a text
+pub place_whole : (byte : ℕ) (text : List ℕ) (r : ℕ) → r ≡ 0 + index_of byte (take (length text) text)
+    → r ≡ index_of byte text
+place_whole byte text r e = omega (arith, e, ap (index_of byte) (take-length text))
 
 -- the first place, as the code asks for it
 pub place_asked : (byte : ℕ) (text : List ℕ) → unwrap_or (position (λ b. eqb b byte) text) (length text) ≡ index_of byte text
