@@ -1,8 +1,8 @@
 -- `client_tallies::update_client` meets its contract: a listed client has a place in the list, and its own tally alone
 -- is replaced; of another client the list stays.
-use Rattle.std.proofs.Common.{◌≡◌, ◌≢◌, ◌-◌, ◌<◌, ◌≤◌, ℕ, List, length, set, arith, sym, ap, ◌∙◌, Fits, w64}
+use Rattle.std.proofs.Common.{◌≡◌, ◌≢◌, ◌-◌, ℕ, set, arith, sym, ap, ◌∙◌}
 use Rattle.clients_spec.specs.Clients.{client_refusal, Listed}
-use Rattle.clients_spec.proofs.ClientLaws.{refusal_0_iff, refusal_19_iff, own-set, all_stay, client_updated}
+use Rattle.clients_spec.proofs.ClientLaws.{refusal_0_iff, own-set, all_stay, client_updated}
 use Rattle.client_tallies.proofs.update_client.Goals as goal
 
 -- whoever is not refused is listed; whoever is refused is not
