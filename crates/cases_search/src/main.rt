@@ -45,7 +45,7 @@
 // 3,000.
 #![tactic(auto)]
 
-ghost use Rattle.std.specs.Prelude.{◌≤◌, length, IfOk};
+ghost use Rattle.std.specs.Prelude.{◌≡◌, ◌≤◌, length, IfOk, OnErr};
 
 use bounded::smaller;
 use buffers::fill_from;
@@ -156,7 +156,8 @@ fn print_built(rt: &impl Print, set: RuleSet, reach: usize, table: &mut [u8]) ->
 
 // The answer to `b`; gives the size of the table that now stands.
 fn built(rt: &impl Print, set: RuleSet, text: &[u8], table: &mut [u8]) -> io::Result<usize>
-    ensures { IfOk result (λ size. size ≤ length table.old) }
+    ensures within { IfOk result (λ size. size ≤ length table.old) }
+    ensures err { OnErr result (length table.new ≡ length table.old) }
 {
     let reach = number_of(up_to(b' ', text));
     let size = smaller(number_of(behind(b' ', text)), table.len());
@@ -173,7 +174,8 @@ fn print_made(rt: &impl Print, entries: &[u8], table: &mut [u8]) -> io::Result<(
 
 // The answer to `t`; gives the size of the table that now stands.
 fn made(rt: &impl Print, text: &[u8], table: &mut [u8]) -> io::Result<usize>
-    ensures { IfOk result (λ size. size ≤ length table.old) }
+    ensures within { IfOk result (λ size. size ≤ length table.old) }
+    ensures err { OnErr result (length table.new ≡ length table.old) }
 {
     let size = smaller(number_of(up_to(b' ', text)), table.len());
     print_made(rt, behind(b' ', text), &mut table[0..size])?;
