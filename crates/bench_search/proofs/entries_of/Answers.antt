@@ -5,5 +5,6 @@ use Rattle.bench_search.proofs.entries_of.Goals as goal
 
 pub returns : goal.returns
 returns c =
-    let bound = count_bound c.args.count (min c.args.reach 3) (omega (arith, c.if-count-gt-MAX_RULES.false)) (omega arith) in
+    let few = c.if-count-gt-MAX_RULES.false in
+    let bound = count_bound c.args.count (min c.args.reach 3) (omega (arith, few)) (omega arith) in
     omega (arith, c.sequence_count.ensures, bound)

@@ -7,7 +7,9 @@ use Rattle.model_spec.specs.How.Buffers.{filled_from}
 use Rattle.buffers.proofs.fill_from.Given as goal
 
 abbrev pub invariant-loop-i : goal.invariant-loop-i
-invariant-loop-i l = (length l.buffer ≡ length l.initial.buffer) × (filled_from l.byte l.i l.buffer ≡ filled_from l.byte l.from l.initial.buffer)
+invariant-loop-i l =
+    (length l.buffer ≡ length l.initial.buffer)
+    × (filled_from l.byte l.i l.buffer ≡ filled_from l.byte l.from l.initial.buffer)
 
 abbrev pub decreases-loop-i : goal.decreases-loop-i
 decreases-loop-i l = length l.buffer - l.i

@@ -1,3 +1,4 @@
+-- `cases_common::decode` meets its contract: one byte more is put at each turn.
 use Rattle.std.proofs.Common.{◌<◌, length, arith, length-set}
 use Rattle.cases_laws.proofs.TextLaws.{decoded_more}
 use Rattle.cases_common.proofs.decode.Goals as goal

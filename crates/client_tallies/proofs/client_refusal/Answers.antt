@@ -5,7 +5,8 @@ use Rattle.clients_spec.proofs.ClientLaws.{refusal_0_iff, refusal_19_iff}
 use Rattle.client_tallies.proofs.client_refusal.Goals as goal
 
 pub returns-then-count-gt-MAX_CLIENTS : goal.returns-then-count-gt-MAX_CLIENTS
-returns-then-count-gt-MAX_CLIENTS c = sym ((refusal_19_iff _ _).1 (λ l. omega (arith, l.within_limit, c.if-count-gt-MAX_CLIENTS.true)))
+returns-then-count-gt-MAX_CLIENTS c =
+    sym ((refusal_19_iff _ _).1 (λ l. omega (arith, l.within_limit, c.if-count-gt-MAX_CLIENTS.true)))
 
 pub returns-then-client-lt1 : goal.returns-then-client-lt1
 returns-then-client-lt1 c = sym ((refusal_19_iff _ _).1 (λ l. omega (arith, l.from_one, c.if-client-lt1.true)))

@@ -35,14 +35,16 @@ unfolding effect_placed
 returns-then-entry-lt-FIRST_VARIABLE c = rw (lt-ltb _ _ c.if-entry-lt-FIRST_VARIABLE.true)
 
 pub returns-then-width-lt2 : goal.returns-then-width-lt2
-returns-then-width-lt2 c = single-value _ _ _ _ _ _ c.if-entry-lt-FIRST_VARIABLE.false c.width_at-width.ensures (omega (arith, c.if-width-lt2.true))
+returns-then-width-lt2 c =
+    single-value _ _ _ _ _ _ c.if-entry-lt-FIRST_VARIABLE.false c.width_at-width.ensures
+    (omega (arith, c.if-width-lt2.true))
 
 pub returns-then-width_at-width : goal.returns-then-width_at-width
 returns-then-width_at-width c =
-    unequal-sizes _ _ _ _ _ _ c.if-entry-lt-FIRST_VARIABLE.false c.width_at-width.ensures _ (omega (arith, c.if-width-lt2.false))
-    c.width_at.ensures c.if-width_at-width.true
+    unequal-sizes _ _ _ _ _ _ c.if-entry-lt-FIRST_VARIABLE.false c.width_at-width.ensures _
+    (omega (arith, c.if-width-lt2.false)) c.width_at.ensures c.if-width_at-width.true
 
 pub returns : goal.returns
 returns c =
-    equal-sizes _ _ _ _ _ _ c.if-entry-lt-FIRST_VARIABLE.false c.width_at-width.ensures _ (omega (arith, c.if-width-lt2.false))
-    c.width_at.ensures _ c.if-width_at-width.false c.entry_at.ensures
+    equal-sizes _ _ _ _ _ _ c.if-entry-lt-FIRST_VARIABLE.false c.width_at-width.ensures _
+    (omega (arith, c.if-width-lt2.false)) c.width_at.ensures _ c.if-width_at-width.false c.entry_at.ensures
