@@ -30,7 +30,7 @@ pub const MOVE_LIMIT: usize = 32;
 pub const FIRST_VARIABLE: u8 = 16;
 
 // A rule: where it runs (the `if` line), where it leads (the `then` line), and what it costs.
-#[derive(Clone, Copy)]
+#[derive(Clone, Copy, PartialEq, Eq, Debug)]
 pub struct Rule {
     pub cost: u8,
     pub condition: [u8; PLACE_COUNT],
@@ -39,7 +39,7 @@ pub struct Rule {
 
 // A rule set: `positions` sizes and `count` rules are used. A valid one is zero in every place beyond them; a caller
 // may pass any.
-#[derive(Clone, Copy)]
+#[derive(Clone, Copy, PartialEq, Eq, Debug)]
 pub struct RuleSet {
     pub positions: u8,
     pub sizes: [u8; PLACE_COUNT],
