@@ -9,3 +9,4 @@ pub mod Shapes
 pub mod CheckLaws
 pub mod BufferLaws
 pub mod CopyLaws
+pub mod ChainLaws
