@@ -8,9 +8,6 @@ ghost use Rattle.model_spec.specs.How.Buffers.{filled_from};
 pub fn fill_from(buffer: &mut [u8], from: usize, byte: u8)
     ensures { buffer.new ≡ filled_from byte from buffer.old }
 {
-    let mut i = from;
-    while i < buffer.len() {
-        buffer[i] = byte;
-        i += 1;
-    }
+    let start = from.min(buffer.len());
+    buffer[start..].fill(byte);
 }
