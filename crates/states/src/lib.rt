@@ -22,28 +22,20 @@ pub fn value(entry: u8, state: &[u8; PLACE_COUNT]) -> u8
 pub fn runs(condition: &[u8; PLACE_COUNT], state: &[u8; PLACE_COUNT]) -> bool
     ensures { result ≡ applicable condition.now state.now }
 {
-    let entries: &[u8] = condition;
-    let held: &[u8] = state;
-    let mut i: usize = 0;
-    while i < PLACE_COUNT {
-        if value(entries[i], state) != held[i] {
-            return false;
-        }
-        i += 1;
-    }
-    true
+    condition
+        .iter()
+        .zip(state)
+        .all(|(entry, held)| value(*entry, state) == *held)
 }
 
 // The state that an effect leads to; all its entries are read in the state before.
 pub fn after(effect: &[u8; PLACE_COUNT], state: &[u8; PLACE_COUNT]) -> [u8; PLACE_COUNT]
     ensures { result ≡ successor effect.now state.now }
 {
-    let entries: &[u8] = effect;
+    // no `map`: for an array it is compiled to code that takes many times as long, and a table's check has a speed bar
     let mut next = *effect;
-    let mut i: usize = 0;
-    while i < PLACE_COUNT {
-        next[i] = value(entries[i], state);
-        i += 1;
+    for entry in &mut next {
+        *entry = value(*entry, state);
     }
     next
 }
@@ -52,14 +44,5 @@ pub fn after(effect: &[u8; PLACE_COUNT], state: &[u8; PLACE_COUNT]) -> [u8; PLAC
 pub fn same_entries(a: &[u8; PLACE_COUNT], b: &[u8; PLACE_COUNT]) -> bool
     ensures { result ≡ same a.now b.now }
 {
-    let x: &[u8] = a;
-    let y: &[u8] = b;
-    let mut i: usize = 0;
-    while i < PLACE_COUNT {
-        if x[i] != y[i] {
-            return false;
-        }
-        i += 1;
-    }
-    true
+    a == b
 }

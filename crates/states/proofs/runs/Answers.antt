@@ -1,35 +1,17 @@
--- `states::runs` meets its contract. The invariant: what is left of the condition and the state from place i on decides
--- the whole.
-use mathlib.Core.Path.{refl, sym, ◌∙◌}
-use native.Mathlib.Omega.{arith}
-use borrow.Author.Rules.{rules}
+-- `states::runs` meets its contract: the closure compares what each entry stands for with what its place holds.
+use Rattle.std.proofs.Common.{rules, arith, ◌∙◌, eqb, tests, ℕ}
+use Rattle.std.proofs.lemmas.Iterator.{YieldsList-from_slice, YieldsList-from_zip}
+use Rattle.std.proofs.lemmas.Iterator.Search.{all_from_yields_List}
 use Rattle.model_spec.specs.States.{value_of, values_of, applicable}
-use Rattle.model_spec.proofs.LoopLaws.{same_go, same_stop, same_end}
+use Rattle.model_spec.proofs.ChainLaws.{same_zip}
 use Rattle.states.proofs.runs.Goals as goal
 
-pub loop-i-init : goal.loop-i-init
-unfolding applicable values_of
-loop-i-init c = (search rules, refl)
-
-pub returns-then-value-held : goal.returns-then-value-held
-returns-then-value-held c =
-    let s = c.args in
-    let l = c.loop-i in
-    same_stop (λ e. value_of e s.state.now) s.condition.now s.state.now l.i _ l.invariant.1 (omega arith)
-    (omega arith) (λ e. c.if-value-held.true (c.value.ensures ∙ e))
-
-pub loop-i-preserved : goal.loop-i-preserved
-loop-i-preserved c =
-    let s = c.args in
-    let l = c.loop-i in (
-      search rules,
-      same_go (λ e. value_of e s.state.now) s.condition.now s.state.now l.i _ l.invariant.1 (omega arith)
-          (omega arith) (sym c.value.ensures ∙ c.if-value-held.false),
-    )
-
 pub returns : goal.returns
+unfolding applicable values_of
 returns c =
-    let s = c.args in
-    let l = c.loop-i in
-    same_end (λ e. value_of e s.state.now) s.condition.now s.state.now l.i _ l.invariant.1 (omega arith)
-    (omega arith)
+    let condition = c.args.condition.now in
+    let state = c.args.state.now in
+    all_from_yields_List (λ (q : ℕ × ℕ). eqb (value_of q.0 state) q.1) c.all.new.self _ _ c.all.ensures.ran
+    (YieldsList-from_zip (YieldsList-from_slice condition cc) (YieldsList-from_slice state cc))
+    (λ x b q k. search (rules, tests))
+    ∙ same_zip (λ e. value_of e state) condition state (omega arith)
