@@ -12,11 +12,7 @@ use model_spec::{FIRST_VARIABLE, PLACE_COUNT};
 fn entry_at(list: &[u8; PLACE_COUNT], i: usize) -> u8
     ensures { result ≡ get_or list.now i 0 }
 {
-    let entries: &[u8] = list;
-    if i < PLACE_COUNT {
-        return entries[i];
-    }
-    0
+    list.get(i).copied().unwrap_or(0)
 }
 
 // How many values a place has: its size, and 1 beyond the positions.
@@ -24,9 +20,10 @@ pub fn width_at(positions: u8, sizes: &[u8; PLACE_COUNT], i: usize) -> u8
     ensures { result ≡ width positions sizes.now i }
 {
     if i < positions as usize {
-        return entry_at(sizes, i);
+        entry_at(sizes, i)
+    } else {
+        1
     }
-    1
 }
 
 // Whether an entry at place i is within its limit: a constant below the size there, beyond the
@@ -35,9 +32,10 @@ pub fn entry_limited(positions: u8, sizes: &[u8; PLACE_COUNT], i: usize, entry: 
     ensures { result ≡ entry_limited positions sizes.now i entry }
 {
     if entry < FIRST_VARIABLE {
-        return entry < width_at(positions, sizes, i);
+        entry < width_at(positions, sizes, i)
+    } else {
+        entry - FIRST_VARIABLE < positions
     }
-    entry - FIRST_VARIABLE < positions
 }
 
 // Whether a variable may stand at place i of an effect: two values or more there, equal sizes, and itself at its own

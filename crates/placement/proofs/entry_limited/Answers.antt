@@ -7,6 +7,6 @@ pub returns-then-entry-lt-FIRST_VARIABLE : goal.returns-then-entry-lt-FIRST_VARI
 unfolding entry_limited
 returns-then-entry-lt-FIRST_VARIABLE c = rw (lt-ltb _ _ c.if-entry-lt-FIRST_VARIABLE.true, c.width_at.ensures)
 
-pub returns : goal.returns
+pub returns-else-entry-lt-FIRST_VARIABLE : goal.returns-else-entry-lt-FIRST_VARIABLE
 unfolding entry_limited
-returns c = rw (le-ltb _ _ c.if-entry-lt-FIRST_VARIABLE.false)
+returns-else-entry-lt-FIRST_VARIABLE c = rw (le-ltb _ _ c.if-entry-lt-FIRST_VARIABLE.false)
