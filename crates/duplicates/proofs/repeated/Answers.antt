@@ -1,34 +1,20 @@
--- `duplicates::repeated` meets its contract. The invariant: the tests of the rules from place j on decide the whole.
-use mathlib.Core.Path.{sym, ◌∙◌}
-use native.Mathlib.Omega.{arith}
-use borrow.Author.Rules.{rules}
-use Rattle.model_spec.specs.Validity.{repeated}
-use Rattle.model_spec.proofs.LoopLaws.{any-start, any_go, any_stop, any-end}
-use Rattle.duplicates.proofs.repeated.Invariants.{test}
+-- `duplicates::repeated` meets its contract: the rules before place k are compared with the one there.
+use Rattle.std.proofs.Common.{rules, arith, ◌∙◌, tests, take, get_or}
+use Rattle.std.proofs.lemmas.Iterator.{YieldsList-from_slice}
+use Rattle.std.proofs.lemmas.Iterator.Search.{any_from_yields_List}
+use Rattle.model_spec.specs.Rules.{no_rule}
+use Rattle.model_spec.specs.Validity.{duplicate, repeated}
+use Rattle.model_spec.specs.declared.Rule.{Rule}
+use Rattle.model_spec.proofs.ChainLaws.{any_is, any_reads, same_is}
 use Rattle.duplicates.proofs.repeated.Goals as goal
 
-pub loop-j-init : goal.loop-j-init
-unfolding repeated
-loop-j-init c = (search rules, any-start (test c.args.set c.args.k) c.args.k)
-
-pub returns-then-duplicate : goal.returns-then-duplicate
-returns-then-duplicate c =
-    let s = c.args in
-    let l = c.loop-j in
-    any_stop (test s.set s.k) l.j s.k _ l.invariant.1 (omega arith)
-    (sym c.duplicate.ensures ∙ c.if-duplicate.true)
-
-pub loop-j-preserved : goal.loop-j-preserved
-loop-j-preserved c =
-    let s = c.args in
-    let l = c.loop-j in (
-      search rules,
-      any_go (test s.set s.k) l.j s.k _ l.invariant.1 (omega arith)
-          (sym c.duplicate.ensures ∙ c.if-duplicate.false),
-    )
-
 pub returns : goal.returns
+unfolding repeated duplicate
 returns c =
-    let s = c.args in
-    let l = c.loop-j in
-    any-end (test s.set s.k) l.j s.k _ l.invariant.1 (omega arith)
+    let all = c.args.rules.now in
+    let k = c.args.k in
+    let test = λ (r : Rule). duplicate r (get_or all k no_rule) in
+    any_from_yields_List test c.any.new.self _ _ c.any.ensures.ran (YieldsList-from_slice (take k all) cc)
+    (λ x b q h. search (rules, tests, same_is))
+    ∙ any_is test (take k all)
+    ∙ any_reads test all no_rule k (omega arith)
