@@ -11,19 +11,11 @@ use placement::{condition_placed, effect_placed, entry_limited};
 fn condition_valid(positions: u8, sizes: &[u8; PLACE_COUNT], condition: &[u8; PLACE_COUNT]) -> bool
     ensures { result ≡ condition_valid positions sizes.now condition.now }
 {
-    let entries: &[u8] = condition;
-    let mut i: usize = 0;
-    while i < PLACE_COUNT {
-        let entry = entries[i];
-        if !entry_limited(positions, sizes, i, entry) {
-            return false;
-        }
-        if !condition_placed(positions, sizes, condition, i, entry) {
-            return false;
-        }
-        i += 1;
-    }
-    true
+    (0..PLACE_COUNT).all(|i| {
+        let entry = condition[i];
+        entry_limited(positions, sizes, i, entry)
+            && condition_placed(positions, sizes, condition, i, entry)
+    })
 }
 
 // Whether every entry of an effect is valid, after this condition.
@@ -35,29 +27,17 @@ fn effect_valid(
 ) -> bool
     ensures { result ≡ effect_valid positions sizes.now condition.now effect.now }
 {
-    let entries: &[u8] = effect;
-    let mut i: usize = 0;
-    while i < PLACE_COUNT {
-        let entry = entries[i];
-        if !entry_limited(positions, sizes, i, entry) {
-            return false;
-        }
-        if !effect_placed(positions, sizes, condition, i, entry) {
-            return false;
-        }
-        i += 1;
-    }
-    true
+    (0..PLACE_COUNT).all(|i| {
+        let entry = effect[i];
+        entry_limited(positions, sizes, i, entry)
+            && effect_placed(positions, sizes, condition, i, entry)
+    })
 }
 
 // Whether both lines of a rule are valid. Every cost is: a byte is at most 255.
 pub fn rule_valid(positions: u8, sizes: &[u8; PLACE_COUNT], rule: Rule) -> bool
     ensures { result ≡ rule_valid positions sizes.now rule }
 {
-    let condition = rule.condition;
-    let effect = rule.effect;
-    if !condition_valid(positions, sizes, &condition) {
-        return false;
-    }
-    effect_valid(positions, sizes, &condition, &effect)
+    condition_valid(positions, sizes, &rule.condition)
+        && effect_valid(positions, sizes, &rule.condition, &rule.effect)
 }

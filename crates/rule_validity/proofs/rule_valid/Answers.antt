@@ -1,33 +1,19 @@
 -- `rule_validity::rule_valid` meets its contract. A cost is a byte, so it is at most 255.
-use mathlib.Core.Path.{◌≡◌, sym, ◌∙◌}
-use mathlib.Core.Bool.{Bool, true, false}
-use mathlib.Core.List.{List}
-use Prim.Native.Nat.{ℕ, ◌≤◌}
+use Rattle.std.proofs.Common.{rules, ◌≤◌, ◌∙◌, sym}
 use borrow.Author.Tests.{le-leb}
-use borrow.Author.Rules.{rules}
-use Rattle.model_spec.specs.Validity.{condition_valid, effect_valid, rule_valid}
-use Rattle.model_spec.specs.declared.Rule.{Rule}
+use Rattle.model_spec.specs.Validity.{rule_valid}
 use Rattle.rule_validity.proofs.rule_valid.Goals as goal
 
--- the answer by the two lines
-module _ (positions : ℕ) (sizes : List ℕ) (rule : Rule) (low : rule.cost ≤ 255) where
-  not-condition : condition_valid positions sizes rule.condition ≡ false → false ≡ rule_valid positions sizes rule
-  unfolding rule_valid
-  not-condition t = rw (le-leb rule.cost 255 low, t)
-
-  by-effect : (r : Bool) → condition_valid positions sizes rule.condition ≡ true
-      → r ≡ effect_valid positions sizes rule.condition rule.effect → r ≡ rule_valid positions sizes rule
-  unfolding rule_valid
-  by-effect r t e = rw (le-leb rule.cost 255 low, t) e
-
-pub returns-then-not-condition_valid : goal.returns-then-not-condition_valid
-returns-then-not-condition_valid c =
+pub returns-then-condition_valid : goal.returns-then-condition_valid
+unfolding rule_valid
+returns-then-condition_valid c =
     let s = c.args in
-    not-condition s.positions s.sizes.now s.rule (search rules)
-    (sym c.condition_valid.ensures ∙ c.if-not-condition_valid.true)
+    let low : s.rule.cost ≤ 255 = search rules in
+    rw (le-leb s.rule.cost 255 low, sym c.condition_valid.ensures ∙ c.if-condition_valid.true) c.effect_valid.ensures
 
-pub returns : goal.returns
-returns c =
+pub returns-else-condition_valid : goal.returns-else-condition_valid
+unfolding rule_valid
+returns-else-condition_valid c =
     let s = c.args in
-    by-effect s.positions s.sizes.now s.rule (search rules) _
-    (sym c.condition_valid.ensures ∙ c.if-not-condition_valid.false) c.effect_valid.ensures
+    let low : s.rule.cost ≤ 255 = search rules in
+    rw (le-leb s.rule.cost 255 low, sym c.condition_valid.ensures ∙ c.if-condition_valid.false) c.if-condition_valid.false
