@@ -28,12 +28,12 @@ module _ (set : RuleSet) where
   answers : (r : Bool) → r ≡ valid set → (r ≡ valid set) × ((r ≡ true) ↔ Valid set)
   answers r e = (e, subst (λ q. (q ≡ true) ↔ Valid set) (sym e) (valid_iff set))
 
-pub returns-then-not-well_formed : goal.returns-then-not-well_formed
-returns-then-not-well_formed c =
+pub returns-then-well_formed : goal.returns-then-well_formed
+returns-then-well_formed c =
     let set = c.args.set in
-    answers set _ (not-formed set (sym c.well_formed-2.ensures ∙ c.if-not-well_formed.true))
+    answers set _ (formed set _ (sym c.well_formed-2.ensures ∙ c.if-well_formed.true) c.has_duplicates.ensures)
 
-pub returns : goal.returns
-returns c =
+pub returns-else-well_formed : goal.returns-else-well_formed
+returns-else-well_formed c =
     let set = c.args.set in
-    answers set _ (formed set _ (sym c.well_formed-2.ensures ∙ c.if-not-well_formed.false) c.has_duplicates.ensures)
+    answers set _ (c.if-well_formed.false ∙ not-formed set (sym c.well_formed-2.ensures ∙ c.if-well_formed.false))

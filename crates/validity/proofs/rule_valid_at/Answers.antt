@@ -7,6 +7,6 @@ pub returns-then-k-set : goal.returns-then-k-set
 unfolding rule_valid_at
 returns-then-k-set c = rw (lt-ltb _ _ c.if-k-set.true) c.rule_valid.ensures
 
-pub returns : goal.returns
+pub returns-else-k-set : goal.returns-else-k-set
 unfolding rule_valid_at
-returns c = rw (le-ltb _ _ c.if-k-set.false) c.rule_blank.ensures
+returns-else-k-set c = rw (le-ltb _ _ c.if-k-set.false) c.rule_blank.ensures

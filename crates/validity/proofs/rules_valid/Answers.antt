@@ -1,30 +1,18 @@
--- `validity::rules_valid` meets its contract. The invariant: the tests of the rules from place k on decide the whole.
-use mathlib.Core.Path.{sym, ◌∙◌}
-use native.Mathlib.Omega.{arith}
-use borrow.Author.Rules.{rules}
+-- `validity::rules_valid` meets its contract: the rule at each place is tested.
+use Rattle.std.proofs.Common.{rules, ◌∙◌, tests, refl}
+use Rattle.std.proofs.lemmas.Iterator.{YieldsList-from_range}
+use Rattle.std.proofs.lemmas.Iterator.Search.{all_from_yields_List}
 use Rattle.model_spec.specs.Validity.{rule_valid_at, rules_valid}
-use Rattle.model_spec.proofs.LoopLaws.{every_go, every_stop, every-end, sized}
+use Rattle.model_spec.proofs.ChainLaws.{every_in_range}
+use Rattle.model_spec.proofs.LoopLaws.{sized}
 use Rattle.validity.proofs.rules_valid.Goals as goal
 
-pub loop-k-init : goal.loop-k-init
-unfolding rules_valid
-loop-k-init c = (search rules, sized c.args.set.rules _ _ (omega arith))
-
-pub returns-then-not-rule_valid_at : goal.returns-then-not-rule_valid_at
-returns-then-not-rule_valid_at c =
-    let l = c.loop-k in
-    every_stop (rule_valid_at c.args.set) l.k 31 _ l.invariant.1 (omega arith)
-    (sym c.rule_valid_at.ensures ∙ c.if-not-rule_valid_at.true)
-
-pub loop-k-preserved : goal.loop-k-preserved
-loop-k-preserved c =
-    let l = c.loop-k in (
-      search rules,
-      every_go (rule_valid_at c.args.set) l.k 31 _ l.invariant.1 (omega arith)
-          (sym c.rule_valid_at.ensures ∙ c.if-not-rule_valid_at.false),
-    )
-
 pub returns : goal.returns
+unfolding rules_valid
 returns c =
-    let l = c.loop-k in
-    every-end (rule_valid_at c.args.set) l.k 31 _ l.invariant.1 (omega arith)
+    let set = c.args.set in
+    let test = rule_valid_at set in
+    all_from_yields_List test c.all.new.self _ _ c.all.ensures.ran (YieldsList-from_range 0 31 31 (cc) refl)
+    (λ x b q h. search (rules, tests))
+    ∙ every_in_range test 0 31
+    ∙ sized set.rules 31 _ (search rules)

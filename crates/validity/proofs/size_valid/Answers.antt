@@ -7,6 +7,6 @@ pub returns-then-i-positions : goal.returns-then-i-positions
 unfolding size_valid
 returns-then-i-positions c = rw (lt-ltb _ _ c.if-i-positions.true) c.in_range.ensures
 
-pub returns : goal.returns
+pub returns-else-i-positions : goal.returns-else-i-positions
 unfolding size_valid
-returns c = rw (le-ltb _ _ c.if-i-positions.false)
+returns-else-i-positions c = rw (le-ltb _ _ c.if-i-positions.false)

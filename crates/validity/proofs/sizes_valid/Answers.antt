@@ -1,33 +1,18 @@
--- `validity::sizes_valid` meets its contract. The invariant: the tests of the places from i on decide the whole.
-use mathlib.Core.Path.{sym, ◌∙◌}
-use native.Mathlib.Omega.{arith}
-use borrow.Author.Rules.{rules}
+-- `validity::sizes_valid` meets its contract: the size at each place is tested.
+use Rattle.std.proofs.Common.{rules, arith, ◌∙◌, tests, refl}
+use Rattle.std.proofs.lemmas.Iterator.{YieldsList-from_range}
+use Rattle.std.proofs.lemmas.Iterator.Search.{all_from_yields_List}
 use Rattle.model_spec.specs.Validity.{size_valid, sizes_valid}
-use Rattle.model_spec.proofs.LoopLaws.{every_go, every_stop, every-end, sized}
+use Rattle.model_spec.proofs.ChainLaws.{every_in_range}
+use Rattle.model_spec.proofs.LoopLaws.{sized}
 use Rattle.validity.proofs.sizes_valid.Goals as goal
 
-pub loop-i-init : goal.loop-i-init
-unfolding sizes_valid
-loop-i-init c = (search rules, sized c.args.sizes.now _ _ (omega arith))
-
-pub returns-then-not-size_valid : goal.returns-then-not-size_valid
-returns-then-not-size_valid c =
-    let s = c.args in
-    let l = c.loop-i in
-    every_stop (size_valid s.positions s.sizes.now) l.i 16 _ l.invariant.1 (omega arith)
-    (sym c.size_valid.ensures ∙ c.if-not-size_valid.true)
-
-pub loop-i-preserved : goal.loop-i-preserved
-loop-i-preserved c =
-    let s = c.args in
-    let l = c.loop-i in (
-      search rules,
-      every_go (size_valid s.positions s.sizes.now) l.i 16 _ l.invariant.1 (omega arith)
-          (sym c.size_valid.ensures ∙ c.if-not-size_valid.false),
-    )
-
 pub returns : goal.returns
+unfolding sizes_valid
 returns c =
-    let s = c.args in
-    let l = c.loop-i in
-    every-end (size_valid s.positions s.sizes.now) l.i 16 _ l.invariant.1 (omega arith)
+    let sizes = c.args.sizes.now in
+    let test = size_valid c.args.positions sizes in
+    all_from_yields_List test c.all.new.self _ _ c.all.ensures.ran (YieldsList-from_range 0 16 16 (cc) refl)
+    (λ x b q h. search (rules, tests))
+    ∙ every_in_range test 0 16
+    ∙ sized sizes 16 _ (omega arith)
