@@ -6,7 +6,7 @@ ghost use Rattle.theory_spec.specs.Lists.{any, within};
 ghost use Rattle.model_spec.specs.Limits.{max_rules};
 ghost use Rattle.model_spec.specs.Rules.{rule_at, sequence_cost};
 
-use model_spec::{MAX_RULES, RULE_PLACES, Rule, RuleSet};
+use model_spec::{MAX_RULES, Rule, RuleSet};
 
 // One more than a `u16` holds: what a dearer sequence is said to cost.
 const MORE_THAN_U16: u32 = 65536;
@@ -15,68 +15,41 @@ const MORE_THAN_U16: u32 = 65536;
 pub fn has_unknown_move(count: u8, moves: &[u8]) -> bool
     ensures { result ≡ any (λ n. not (within 1 count n)) moves.now }
 {
-    let mut i: usize = 0;
-    while i < moves.len() {
-        let number = moves[i];
-        if number < 1 {
-            return true;
-        }
-        if count < number {
-            return true;
-        }
-        i += 1;
-    }
-    false
+    moves.iter().any(|number| !(1..=count).contains(number))
 }
-
-// The place of the last rule that a set can have.
-const LAST_PLACE: usize = RULE_PLACES - 1;
 
 // The place of a number's rule among the 31 of a set: the first for 0, the last for a number above 31.
 fn place_of(number: u8) -> usize
     ensures { result ≡ min number max_rules - 1 }
 {
-    if number < 1 {
-        return 0;
-    }
-    if MAX_RULES < number {
-        return LAST_PLACE;
-    }
-    (number - 1) as usize
+    number.min(MAX_RULES).saturating_sub(1) as usize
 }
 
 // The rule of a number; that of 1 for 0, and that of 31 for a larger number.
 pub fn rule_at(set: RuleSet, number: u8) -> Rule
     ensures { result ≡ rule_at set (min number max_rules) }
 {
-    let place = place_of(number);
-    set.rules[place]
+    set.rules[place_of(number)]
 }
 
 // What the rule of a number costs: as that of 1 for 0, and nothing above 31.
 pub fn cost_at(set: RuleSet, number: u8) -> u8
     ensures { result ≡ (rule_at set number).cost }
 {
-    if MAX_RULES < number {
-        return 0;
+    if number <= MAX_RULES {
+        rule_at(set, number).cost
+    } else {
+        0
     }
-    let rule = rule_at(set, number);
-    rule.cost
 }
 
 // What a sequence costs, but 65,536 where it costs more than that.
 pub fn cost_of(set: RuleSet, moves: &[u8]) -> u32
     ensures { result ≡ min (sequence_cost set moves.now) 65536 }
 {
-    let mut total: u32 = 0;
-    let mut i: usize = 0;
-    while i < moves.len() {
-        let cost = cost_at(set, moves[i]) as u32;
-        total = total + cost;
-        if MORE_THAN_U16 < total {
-            return MORE_THAN_U16;
-        }
-        i += 1;
+    let mut total = 0;
+    for number in moves {
+        total = MORE_THAN_U16.min(total + u32::from(cost_at(set, *number)));
     }
     total
 }

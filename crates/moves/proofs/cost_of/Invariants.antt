@@ -1,15 +1,10 @@
--- `moves::cost_of` meets its contract. The invariant: the total plus the cost of the moves left is the whole cost.
-use mathlib.Core.Path.{◌≡◌}
-use Prim.Native.Nat.{◌+◌, ◌≤◌, ◌-◌}
-use lib.ListN.{length, drop}
+-- `moves::cost_of` meets its contract. The invariant: the total plus the cost of the moves left is the whole cost, where
+-- both are limited.
+use Rattle.std.proofs.Common.{◌≡◌, ◌+◌, ◌≤◌, min, drop}
 use Rattle.model_spec.specs.Rules.{sequence_cost}
 use Rattle.moves.proofs.cost_of.Given as goal
 
-abbrev pub invariant-loop-i : goal.invariant-loop-i
-invariant-loop-i l =
-    (l.i ≤ length l.moves)
-    × (l.total ≤ 65536)
-    × (l.total + sequence_cost l.set (drop l.i l.moves) ≡ sequence_cost l.set l.moves)
-
-abbrev pub decreases-loop-i : goal.decreases-loop-i
-decreases-loop-i l = length l.moves - l.i
+abbrev pub invariant-loop-number : goal.invariant-loop-number
+invariant-loop-number l =
+    (l.total ≤ 65536)
+    × (min (l.total + sequence_cost l.set (drop l.number-index l.moves)) 65536 ≡ min (sequence_cost l.set l.moves) 65536)

@@ -4,4 +4,4 @@ use Rattle.moves.proofs.rule_at.Goals as goal
 
 pub returns : goal.returns
 unfolding rule_at
-returns c = rw c.place_of-place.ensures
+returns c = rw c.place_of.ensures
