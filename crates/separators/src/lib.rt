@@ -8,8 +8,5 @@ ghost use Rattle.files_spec.specs.Reading.{ending_of};
 pub fn ending(after: usize) -> u8
     ensures { result ≡ ending_of after }
 {
-    if after == 0 {
-        return b'\n';
-    }
-    b','
+    if after == 0 { b'\n' } else { b',' }
 }
