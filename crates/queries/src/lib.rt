@@ -1,15 +1,17 @@
 // What is judged of a query before any sequence is visited.
 #![tactic(auto)]
 
-ghost use Rattle.std.specs.Prelude.{◌≡◌, ℕ, ◌≤◌};
+ghost use Rattle.std.specs.Prelude.{◌≡◌, ◌≤◌};
 ghost use Rattle.model_spec.specs.Limits.{max_positions};
 ghost use Rattle.model_spec.specs.Refusals.{first_refusal};
-ghost use Rattle.search_spec.specs.Query.{asked, start_fits, goal_fits};
+ghost use Rattle.search_spec.specs.Query.{query_of, start_fits, goal_fits};
 ghost use Rattle.search_spec.specs.Searched.{query_causes};
+ghost use Rattle.search_laws.specs.How.Refusals.{refusal_number};
 
 use acceptance::check_outcome;
 use model_spec::{MOVE_LIMIT, RuleSet};
-use search_spec::ANY_VALUE;
+use refusals_spec::Refusal;
+use search_spec::{ANY_VALUE, Query};
 
 // Whether a start has one byte for each position, each below its size.
 fn start_fits(set: RuleSet, start: &[u8]) -> bool
@@ -53,39 +55,33 @@ fn goal_fits(set: RuleSet, goal: &[u8]) -> bool
     true
 }
 
-// The first cause for which a query is refused, whatever its cost bound and its step limit are: 7, 5, 6, 9, 10, 11, 12
-// or 14; 0 if none holds. The table is checked first, and its 14 waits for 9 to 12.
-pub fn query_refusal(
-    set: RuleSet,
-    reach: usize,
-    table: &[u8],
-    start: &[u8],
-    goal: &[u8],
-    max_moves: usize,
-    plan_size: usize,
-) -> u8
-    ensures { (max_cost step_limit : ℕ)
-        → let query = asked reach table.now start.now goal.now
-        max_moves max_cost step_limit in
-        result ≡ first_refusal (query_causes set query plan_size) }
+// The first cause for which a query is refused. The table is checked first, but that it is not accepted waits for the
+// query's own causes.
+pub fn query_refusal(set: RuleSet, query: Query<'_>, plan_size: usize) -> Result<(), Refusal>
+    ensures { let asked = query_of query.entry in
+        refusal_number result ≡ first_refusal (query_causes set asked plan_size) }
 {
-    let checked = check_outcome(set, reach, table);
-    if checked != 0 {
-        if checked != 14 {
-            return checked;
-        }
+    let checked = check_outcome(set, query.reach, query.table);
+    match checked {
+        5 => return Err(Refusal::Reach),
+        6 => return Err(Refusal::TableLength),
+        7 => return Err(Refusal::RuleSet),
+        _ => {}
     }
-    if !start_fits(set, start) {
-        return 9;
+    if !start_fits(set, query.start) {
+        return Err(Refusal::Start);
     }
-    if !goal_fits(set, goal) {
-        return 10;
+    if !goal_fits(set, query.goal) {
+        return Err(Refusal::Goal);
     }
-    if MOVE_LIMIT < max_moves {
-        return 11;
+    if query.max_moves > MOVE_LIMIT {
+        return Err(Refusal::Moves);
     }
-    if plan_size < max_moves {
-        return 12;
+    if query.max_moves > plan_size {
+        return Err(Refusal::PlanRoom);
     }
-    checked
+    if checked == 14 {
+        return Err(Refusal::Table);
+    }
+    Ok(())
 }

@@ -3,8 +3,7 @@
 -- if the limit is not exceeded, and the least cost of the others.
 -- Assumes nothing.
 use mathlib.Core.Path.{◌≡◌, refl, sym, ap, ap₂, ◌∙◌, subst, fun_ext}
-use mathlib.Core.Logic.{◌≢◌}
-use mathlib.Core.Bool.{Bool, false, cond, ◌&&◌}
+use mathlib.Core.Bool.{Bool, false, ◌&&◌}
 use mathlib.Core.Option.{Option, some, none}
 use mathlib.Core.List.{List, [], ◌∷◌, ◌++◌, map}
 use Prim.Native.Nat.{ℕ, ◌-◌, ◌≤◌, ◌<◌, zero-le, min}
@@ -12,7 +11,7 @@ use native.Mathlib.Omega.{arith}
 use lib.Dec.{leb, eqb}
 use lib.ListN.{length, get_or, take, get_or-map}
 use lib.Seq.{take_all}
-use borrow.Author.Tests.{le-leb, ne_eqb}
+use borrow.Author.Tests.{le-leb}
 use Rattle.theory_spec.specs.Lists.{only_if, padded}
 use Rattle.theory_spec.specs.How.Folds.{fold_over}
 use Rattle.theory_spec.specs.Sequences.{Sequence, run, cost_of, Numbered}
@@ -37,8 +36,7 @@ use Rattle.search_spec.proofs.PlanVisited.{start-state}
 use Rattle.search_spec.proofs.MeaningLaws.{not-refused_iff, unrefused_iff}
 use Rattle.search_laws.specs.How.Lookup.{LooksUp}
 use Rattle.search_laws.specs.How.Visits.{lent_step, lent_cost, may_go_on, noted, no_progress, visits_from, as_best}
-use Rattle.search_laws.specs.How.Visits.{whole_progress, exploration}
-use Rattle.search_laws.specs.declared.Exploration.{Exploration}
+use Rattle.search_laws.specs.How.Visits.{whole_progress}
 use Rattle.search_laws.specs.declared.Limits.{Limits}
 use Rattle.search_laws.specs.declared.Progress.{Progress}
 use Rattle.search_laws.proofs.LookupLaws.{look_up-marks}
@@ -185,27 +183,3 @@ module _ (set : RuleSet) (query : Query) (room : ℕ) (not_refused : NotRefused 
 pub unrefused : (set : RuleSet) (query : Query) (room : ℕ) → first_refusal (query_causes set query room) ≡ 0
     → NotRefused set query room
 unrefused set query room e = (not-refused_iff set query room).1 ((unrefused_iff set query room).0 e)
-
--- what a query comes to, refused or not
-module _ (set : RuleSet) (query : Query) (room : ℕ) where
-  pub exploration-refused : (refusal : ℕ) → refusal ≡ first_refusal (query_causes set query room) → refusal ≢ 0
-      → record { refusal = refusal; progress = no_progress } ≡ exploration set query room
-  unfolding exploration
-  exploration-refused refusal e n = rw (← e, ne_eqb refusal 0 n)
-
-  pub exploration-whole : (progress : Progress) → 0 ≡ first_refusal (query_causes set query room)
-      → progress ≡ whole_progress set query → record { refusal = 0; progress = progress } ≡ exploration set query room
-  unfolding exploration
-  exploration-whole progress e p = rw (← e, p)
-
-  -- and back
-  module _ (found : Exploration) (is : found ≡ exploration set query room) where
-    pub explored_refusal : found.refusal ≡ first_refusal (query_causes set query room)
-    unfolding exploration
-    explored_refusal = ap (λ (x : Exploration). x.refusal) is
-
-    pub explored_progress : found.refusal ≡ 0 → found.progress ≡ whole_progress set query
-    unfolding exploration
-    explored_progress z =
-        let none = sym explored_refusal ∙ z in
-        ap (λ (x : Exploration). x.progress) is ∙ ap (λ n. cond (eqb n 0) (whole_progress set query) no_progress) none

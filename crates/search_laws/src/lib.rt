@@ -33,11 +33,3 @@ pub struct Limits {
     pub max_cost: u16,
     pub step_limit: u32,
 }
-
-// What a query comes to before a plan is shown: the number for which it is refused, or with 0 how far the search has
-// come.
-#[derive(Clone, Copy)]
-pub struct Exploration {
-    pub refusal: u8,
-    pub progress: Progress,
-}

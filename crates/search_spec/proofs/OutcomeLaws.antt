@@ -2,7 +2,7 @@
 -- causes; and what a search leaves with each outcome.
 -- Assumes nothing.
 use mathlib.Core.Path.{◌≡◌, refl, sym, ap, ◌∙◌}
-use mathlib.Core.Logic.{◌⊎◌, ◌≢◌, ⊎_elim}
+use mathlib.Core.Logic.{◌⊎◌, ◌≢◌, ⊎_elim, inl, inr}
 use mathlib.Core.Bool.{Bool, true, false, not, cond}
 use mathlib.Core.Option.{some, none}
 use mathlib.Core.List.{List, [], ◌∷◌, ◌++◌}
@@ -30,13 +30,28 @@ use Rattle.search_spec.proofs.AnswerLaws.{refused-outcome, refused_no-answer}
 
 -- ── The check of the table, and the query's own causes ───────────────────────────────────────────
 
+-- of the numbers of a check's causes, what is left without the first three
+last_or_none : (set_bad reach_bad length_bad marks_bad : Bool)
+    → let n = first_refusal ((7, set_bad) ∷ (5, reach_bad) ∷ (6, length_bad) ∷ (14, marks_bad) ∷ []) in
+    n ≢ 5 → n ≢ 6 → n ≢ 7 → (n ≡ 14) ⊎ (n ≡ 0)
+last_or_none true _ _ _ _ _ h = absurd (h refl)
+last_or_none false true _ _ h _ _ = absurd (h refl)
+last_or_none false false true _ _ h _ = absurd (h refl)
+last_or_none false false false true _ _ _ = inl refl
+last_or_none false false false false _ _ _ = inr refl
+
 -- a check that passes, or refuses the table's marks, has judged what the check and the query share
-pub checked_ready : (set : RuleSet) (reach : ℕ) (table : List ℕ)
-    → (check_outcome set reach table ≡ 14) ⊎ (check_outcome set reach table ≡ 0)
-    → Ready set reach (length table)
-checked_ready set reach table =
+pub checked_ready : (set : RuleSet) (reach : ℕ) (table : List ℕ) (checked : ℕ)
+    → checked ≡ check_outcome set reach table → (5 ≤ checked → 8 ≤ checked)
+    → Ready set reach (length table) × ((checked ≡ 14) ⊎ (checked ≡ 0))
+unfolding check_outcome check_causes
+checked_ready set reach table checked e h =
     let m = check_meaning set reach table in
-    ⊎_elim (λ e. (m.not_accepted.0 e).0) (λ e. (m.accepts.0 e).0)
+    let end = last_or_none _ _ _ _ (λ k. omega (arith, e, k, h)) (λ k. omega (arith, e, k, h))
+    (λ k. omega (arith, e, k, h)) in (
+      ⊎_elim (λ k. (m.not_accepted.0 k).0) (λ k. (m.accepts.0 k).0) end,
+      ⊎_elim (λ k. inl (e ∙ k)) (λ k. inr (e ∙ k)) end,
+    )
 
 -- the last cause of a table and of a query: the table is not accepted
 abbrev pub unaccepted : RuleSet → Query → Cause

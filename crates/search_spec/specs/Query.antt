@@ -9,6 +9,7 @@ use Rattle.model_spec.specs.States.{State}
 use Rattle.model_spec.specs.Rules.{step_of, rule_cost, run_in, sequence_cost}
 use Rattle.model_spec.specs.declared.RuleSet.{RuleSet}
 use Rattle.tables_spec.specs.Table.{marked, Marked}
+use Rattle.search_spec.specs.declared.Query.{Query as PassedQuery}
 
 -- what a search is asked: the table and its reach, the start, the goal, the move bound (0 to 32), the cost bound
 -- (16 bits) and the step limit (document 01: the ceiling, 32 bits)
@@ -33,6 +34,10 @@ asked reach table start goal max_moves max_cost step_limit =
       max_cost = max_cost;
       step_limit = step_limit;
     }
+
+-- the query of a call
+abbrev pub query_of : PassedQuery → Query
+query_of q = asked q.reach q.table.now q.start.now q.goal.now q.max_moves q.max_cost q.step_limit
 
 -- the start has one byte for each position, each below its size
 unfoldable pub start_fits : RuleSet → List ℕ → Bool

@@ -2,6 +2,19 @@
 // code is in `search`, `answers`, `tally` and `tallied_search`.
 #![tactic(auto)]
 
+// What a search is asked: the table and its reach, the start, the goal, the move bound, the cost bound and the step
+// limit.
+#[derive(Clone, Copy)]
+pub struct Query<'a> {
+    pub reach: usize,
+    pub table: &'a [u8],
+    pub start: &'a [u8],
+    pub goal: &'a [u8],
+    pub max_moves: usize,
+    pub max_cost: u16,
+    pub step_limit: u32,
+}
+
 // What a search gives beside the plan buffer.
 #[derive(Clone, Copy)]
 pub struct Answer {

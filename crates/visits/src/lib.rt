@@ -3,17 +3,21 @@
 // through by value.
 #![tactic(auto)]
 
-ghost use Rattle.std.specs.Prelude.{◌≡◌, take};
-ghost use Rattle.search_spec.specs.Query.{asked};
-ghost use Rattle.search_laws.specs.How.Visits.{Lent, Reached, visits_from, exploration};
+ghost use Rattle.std.specs.Prelude.{◌≡◌, IfOk, take};
+ghost use Rattle.model_spec.specs.Refusals.{first_refusal};
+ghost use Rattle.search_spec.specs.Query.{query_of};
+ghost use Rattle.search_spec.specs.Searched.{query_causes};
+ghost use Rattle.search_laws.specs.How.Refusals.{refusal_number};
+ghost use Rattle.search_laws.specs.How.Visits.{Lent, Reached, visits_from, whole_progress};
 
 use lookup::{first_place, lookup_of};
 use model_spec::{MOVE_LIMIT, PLACE_COUNT, RULE_PLACES, RuleSet};
 use queries::query_refusal;
+use refusals_spec::Refusal;
 use rule_arrays::{conditions_of, costs_of, effects_of};
-use search_laws::{Best, Exploration, Limits, Progress};
+use search_laws::{Best, Limits, Progress};
 use search_progress::noted;
-use search_spec::NO_MOVE;
+use search_spec::{NO_MOVE, Query};
 use search_states::{goes_on, put_after, start_state};
 
 // The least cost beyond the limit while no sequence there is met: no cost is larger.
@@ -89,22 +93,24 @@ fn visit_from(
 }
 
 // Judges a query, and if it is not refused, visits its sequences from the empty one on, up to the step limit.
-pub fn explored(
-    set: RuleSet,
-    reach: usize,
-    table: &[u8],
-    start: &[u8],
-    goal: &[u8],
-    max_moves: usize,
-    max_cost: u16,
-    step_limit: u32,
-    plan_size: usize,
-) -> Exploration
-    ensures { let query = asked reach table.now start.now goal.now
-        max_moves max_cost step_limit in
-        result ≡ exploration set query plan_size }
+pub fn explored(set: RuleSet, query: Query<'_>, plan_size: usize) -> Result<Progress, Refusal>
+    ensures refusal { let asked = query_of query.entry in
+        refusal_number result ≡ first_refusal (query_causes set asked plan_size) }
+    ensures progress { let asked = query_of query.entry in
+        IfOk result (λ progress. progress ≡ whole_progress set asked) }
 {
-    let refusal = query_refusal(set, reach, table, start, goal, max_moves, plan_size);
+    query_refusal(set, query, plan_size)?;
+    let conditions = conditions_of(set);
+    let effects = effects_of(set);
+    let costs = costs_of(set);
+    let blocked = lookup_of(set.count, query.table);
+    let limits = Limits {
+        positions: set.positions as usize,
+        count: set.count as usize,
+        reach: query.reach,
+        max_cost: query.max_cost,
+        step_limit: query.step_limit,
+    };
     let moves = [NO_MOVE; MOVE_LIMIT];
     let best = Best {
         found: false,
@@ -118,40 +124,20 @@ pub fn explored(
         best,
         least: TOP_COST,
     };
-    if refusal != 0 {
-        return Exploration {
-            refusal,
-            progress: blank,
-        };
-    }
-    let conditions = conditions_of(set);
-    let effects = effects_of(set);
-    let costs = costs_of(set);
-    let blocked = lookup_of(set.count, table);
-    let limits = Limits {
-        positions: set.positions as usize,
-        count: set.count as usize,
-        reach,
-        max_cost,
-        step_limit,
-    };
-    let state = start_state(start);
+    let state = start_state(query.start);
     let progress = visit_from(
         &conditions,
         &effects,
         &costs,
         &blocked,
-        goal,
+        query.goal,
         limits,
         &state,
         &moves,
         0,
         0,
-        max_moves,
+        query.max_moves,
         blank,
     );
-    Exploration {
-        refusal: 0,
-        progress,
-    }
+    Ok(progress)
 }

@@ -13,14 +13,12 @@ use Rattle.theory_spec.specs.How.Recursion.{last, explore_with, best}
 use Rattle.model_spec.specs.Limits.{max_positions, place_count, max_rules, move_limit}
 use Rattle.model_spec.specs.States.{State, values_of, applicable, successor}
 use Rattle.model_spec.specs.Rules.{step_of, rule_cost, sequence_cost}
-use Rattle.model_spec.specs.Refusals.{first_refusal}
 use Rattle.model_spec.specs.declared.RuleSet.{RuleSet}
 use Rattle.search_spec.specs.Query.{Query, start_state, meets_goal, visited_by}
-use Rattle.search_spec.specs.Searched.{no_move, query_causes}
+use Rattle.search_spec.specs.Searched.{no_move}
 use Rattle.search_laws.specs.declared.Best.{Best}
 use Rattle.search_laws.specs.declared.Progress.{Progress}
 use Rattle.search_laws.specs.declared.Limits.{Limits}
-use Rattle.search_laws.specs.declared.Exploration.{Exploration}
 
 -- ── One rule more ────────────────────────────────────────────────────────────────────────────────
 
@@ -150,10 +148,3 @@ outcome_of exceeded found = cond exceeded (cond found 18 16) (cond found 0 15)
 -- the floor shown beside a plan at a cost, where what is met beyond the limit costs at least so much; 0 within it
 unfoldable pub floor_shown : Bool → ℕ → ℕ → ℕ
 floor_shown exceeded cost least = cond exceeded (min cost least) 0
-
--- what a query comes to: the first cause for which it is refused, and no progress; if none holds, the progress of the
--- whole search
-unfoldable pub exploration : RuleSet → Query → ℕ → Exploration
-exploration set query room =
-    let refusal = first_refusal (query_causes set query room) in
-    record { refusal = refusal; progress = cond (eqb refusal 0) (whole_progress set query) no_progress }
