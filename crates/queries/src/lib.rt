@@ -18,19 +18,11 @@ fn start_fits(set: RuleSet, start: &[u8]) -> bool
     requires { set.positions ≤ max_positions }
     ensures { result ≡ start_fits set start.now }
 {
-    let positions = set.positions as usize;
-    if start.len() != positions {
-        return false;
-    }
-    let sizes = set.sizes;
-    let mut i: usize = 0;
-    while i < positions {
-        if sizes[i] <= start[i] {
-            return false;
-        }
-        i += 1;
-    }
-    true
+    start.len() == set.positions as usize
+        && start
+            .iter()
+            .zip(&set.sizes)
+            .all(|(value, size)| value < size)
 }
 
 // Whether a goal has one byte for each position, each below its size or 255.
@@ -38,21 +30,11 @@ fn goal_fits(set: RuleSet, goal: &[u8]) -> bool
     requires { set.positions ≤ max_positions }
     ensures { result ≡ goal_fits set goal.now }
 {
-    let positions = set.positions as usize;
-    if goal.len() != positions {
-        return false;
-    }
-    let sizes = set.sizes;
-    let mut i: usize = 0;
-    while i < positions {
-        if goal[i] != ANY_VALUE {
-            if sizes[i] <= goal[i] {
-                return false;
-            }
-        }
-        i += 1;
-    }
-    true
+    goal.len() == set.positions as usize
+        && goal
+            .iter()
+            .zip(&set.sizes)
+            .all(|(value, size)| *value == ANY_VALUE || value < size)
 }
 
 // The first cause for which a query is refused. The table is checked first, but that it is not accepted waits for the

@@ -1,55 +1,23 @@
--- `queries::goal_fits` meets its contract. The invariant: the tests of the positions from i on decide the whole.
-use mathlib.Core.Path.{◌≡◌}
-use mathlib.Core.Bool.{true}
-use Prim.Native.Nat.{◌-◌}
-use native.Mathlib.Omega.{arith}
-use lib.Dec.{ltb, eqb}
-use lib.ListN.{get_or}
-use borrow.Author.Tests.{eq-eqb, ne_eqb, lt-ltb, le-ltb}
-use borrow.Author.Rules.{rules}
-use Rattle.theory_spec.proofs.ListLaws.{or_left, or_right}
-use Rattle.model_spec.proofs.LoopLaws.{every_go, every_stop, every-end, sized}
+-- `queries::goal_fits` meets its contract: the closure is the test of a position.
+use Rattle.std.proofs.Common.{rules, arith, tests, ◌∙◌, ℕ, ltb, eqb, ◌||◌}
+use Rattle.std.proofs.lemmas.Iterator.{YieldsList-from_slice, YieldsList-from_zip}
+use Rattle.std.proofs.lemmas.Iterator.Search.{all_from_yields_List}
+use borrow.Author.Tests.{ne_eqb}
 use Rattle.search_spec.specs.Query.{any_value, goal_fits}
+use Rattle.search_laws.proofs.FitLaws.{all_fit}
 use Rattle.queries.proofs.goal_fits.Goals as goal
-use Rattle.queries.proofs.goal_fits.Goals.{then-goal-i+else-sizes-i, else-goal-i}
-use Rattle.queries.proofs.goal_fits.Invariants.{test}
 
-pub returns-then-goal-positions : goal.returns-then-goal-positions
+pub returns-then-goal-set : goal.returns-then-goal-set
 unfolding goal_fits
-returns-then-goal-positions c = rw (ne_eqb _ _ c.if-goal-positions.true)
+returns-then-goal-set c =
+    let goal = c.args.goal.now in
+    let sizes = c.args.set.sizes in
+    all_from_yields_List (λ (q : ℕ × ℕ). eqb q.0 any_value || ltb q.0 q.1) c.all.new.self _ _ c.all.ensures.ran
+    (YieldsList-from_zip (YieldsList-from_slice goal cc) (YieldsList-from_slice sizes cc))
+    (λ x b q k. search (rules, tests))
+    ∙ all_fit (λ (byte size : ℕ). eqb byte any_value || ltb byte size) c.args.set.positions goal sizes c.if-goal-set.true
+    (omega (arith, c.requires))
 
-pub loop-i-init : goal.loop-i-init
-loop-i-init c =
-    let s = c.args in
-    let all : s.set.positions - 0 ≡ s.set.positions = omega arith in
-    (search rules, rw all (sized s.goal.now _ _ c.if-goal-positions.false))
-
-pub returns-then-sizes-i : goal.returns-then-sizes-i
+pub returns-else-goal-set : goal.returns-else-goal-set
 unfolding goal_fits
-returns-then-sizes-i c =
-    let s = c.args in
-    let l = c.loop-i in
-    every_stop (test s.set.sizes s.goal.now) l.i s.set.positions _ l.invariant.1 (omega arith)
-    (rw (ne_eqb _ _ c.if-goal-i.true) (le-ltb _ _ c.if-sizes-i.true))
-
-pub loop-i-preserved : goal.loop-i-preserved
-loop-i-preserved c =
-    let s = c.args in
-    let l = c.loop-i in
-    let byte = get_or s.goal.now l.i 0 in
-    let size = get_or s.set.sizes l.i 0 in
-    let passed : test s.set.sizes s.goal.now l.i ≡ true = elim c.if-goal-i.branch [
-      | then-goal-i+else-sizes-i w ↦ or_right (eqb byte any_value) (lt-ltb byte size w.if-sizes-i.false)
-      | else-goal-i w ↦ or_left (ltb byte size) (eq-eqb byte any_value w.if-goal-i.false)
-    ] in (
-      search rules,
-      every_go (test s.set.sizes s.goal.now) l.i s.set.positions _ l.invariant.1
-          (omega arith) passed,
-    )
-
-pub returns : goal.returns
-unfolding goal_fits
-returns c =
-    let s = c.args in
-    let l = c.loop-i in
-    every-end (test s.set.sizes s.goal.now) l.i s.set.positions _ l.invariant.1 (omega arith)
+returns-else-goal-set c = rw (ne_eqb _ _ c.if-goal-set.false)

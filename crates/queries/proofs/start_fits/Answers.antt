@@ -1,44 +1,23 @@
--- `queries::start_fits` meets its contract. The invariant: the tests of the positions from i on decide the whole.
-use mathlib.Core.Path.{◌≡◌}
-use Prim.Native.Nat.{◌-◌}
-use native.Mathlib.Omega.{arith}
-use borrow.Author.Tests.{ne_eqb, lt-ltb, le-ltb}
-use borrow.Author.Rules.{rules}
-use Rattle.model_spec.proofs.LoopLaws.{every_go, every_stop, every-end, sized}
+-- `queries::start_fits` meets its contract: the closure is the test of a position.
+use Rattle.std.proofs.Common.{rules, arith, tests, ◌∙◌, ℕ, ltb}
+use Rattle.std.proofs.lemmas.Iterator.{YieldsList-from_slice, YieldsList-from_zip}
+use Rattle.std.proofs.lemmas.Iterator.Search.{all_from_yields_List}
+use borrow.Author.Tests.{ne_eqb}
 use Rattle.search_spec.specs.Query.{start_fits}
+use Rattle.search_laws.proofs.FitLaws.{all_fit}
 use Rattle.queries.proofs.start_fits.Goals as goal
-use Rattle.queries.proofs.start_fits.Invariants.{test}
 
-pub returns-then-start-positions : goal.returns-then-start-positions
+pub returns-then-start-set : goal.returns-then-start-set
 unfolding start_fits
-returns-then-start-positions c = rw (ne_eqb _ _ c.if-start-positions.true)
+returns-then-start-set c =
+    let start = c.args.start.now in
+    let sizes = c.args.set.sizes in
+    all_from_yields_List (λ (q : ℕ × ℕ). ltb q.0 q.1) c.all.new.self _ _ c.all.ensures.ran
+    (YieldsList-from_zip (YieldsList-from_slice start cc) (YieldsList-from_slice sizes cc))
+    (λ x b q k. search (rules, tests))
+    ∙ all_fit (λ (byte size : ℕ). ltb byte size) c.args.set.positions start sizes c.if-start-set.true
+    (omega (arith, c.requires))
 
-pub loop-i-init : goal.loop-i-init
-loop-i-init c =
-    let s = c.args in
-    let all : s.set.positions - 0 ≡ s.set.positions = omega arith in
-    (search rules, rw all (sized s.start.now _ _ c.if-start-positions.false))
-
-pub returns-then-sizes-i : goal.returns-then-sizes-i
+pub returns-else-start-set : goal.returns-else-start-set
 unfolding start_fits
-returns-then-sizes-i c =
-    let s = c.args in
-    let l = c.loop-i in
-    every_stop (test s.set.sizes s.start.now) l.i s.set.positions _ l.invariant.1 (omega arith)
-    (le-ltb _ _ c.if-sizes-i.true)
-
-pub loop-i-preserved : goal.loop-i-preserved
-loop-i-preserved c =
-    let s = c.args in
-    let l = c.loop-i in (
-      search rules,
-      every_go (test s.set.sizes s.start.now) l.i s.set.positions _ l.invariant.1
-          (omega arith) (lt-ltb _ _ c.if-sizes-i.false),
-    )
-
-pub returns : goal.returns
-unfolding start_fits
-returns c =
-    let s = c.args in
-    let l = c.loop-i in
-    every-end (test s.set.sizes s.start.now) l.i s.set.positions _ l.invariant.1 (omega arith)
+returns-else-start-set c = rw (ne_eqb _ _ c.if-start-set.false)
