@@ -9,12 +9,8 @@ ghost use Rattle.model_spec.specs.Limits.{max_rules, move_limit};
 ghost use Rattle.tables_spec.specs.Table.{sequence_count};
 ghost use Rattle.search_laws.specs.How.Lookup.{LooksUp};
 
-use bounded::{at_most, smaller};
 use model_spec::{MAX_RULES, MOVE_LIMIT};
 use tables::{KEPT, entry_at, sequence_count};
-
-// The moves of a plan, which the depth counts.
-const MOVES: u8 = MOVE_LIMIT as u8;
 
 // The index of a sequence of one to three rules without its first rule.
 fn tail_index(count: usize, index: usize) -> usize
@@ -37,32 +33,19 @@ fn tail_index(count: usize, index: usize) -> usize
 pub fn lookup_of(count: u8, table: &[u8]) -> [u8; 30784]
     ensures { LooksUp (min count max_rules) table.now result }
 {
-    let rules = at_most(count, MAX_RULES);
-    let end = smaller(table.len() / 2, sequence_count(rules, 3));
+    let rules = count.min(MAX_RULES);
+    let end = (table.len() / 2).min(sequence_count(rules, 3));
     // a byte for each sequence of at most three of 31 rules
     let mut blocked = [0u8; 30784];
-    let mut i: usize = 1;
-    while i < end {
+    for i in 1..end {
         let tail = tail_index(rules as usize, i);
-        let mut block = blocked[tail];
-        if entry_at(table, i) != KEPT {
-            block = 1;
-        }
-        blocked[i] = block;
-        i += 1;
+        blocked[i] = if entry_at(table, i) == KEPT {
+            blocked[tail]
+        } else {
+            1
+        };
     }
     blocked
-}
-
-// How many moves of the plan count: at most all.
-fn moves_of(depth: u8) -> usize
-    ensures { result ≡ min depth move_limit }
-{
-    if depth < MOVES {
-        depth as usize
-    } else {
-        MOVE_LIMIT
-    }
 }
 
 // The place in the look-up of a sequence's last `reach` - 1 rules, at most two, with rule 1 behind them; the places of
@@ -76,16 +59,15 @@ pub fn first_place(reach: usize, count: u8, plan: &[u8; MOVE_LIMIT], depth: u8) 
     if depth == 0 {
         return 1;
     }
-    let moves: &[u8] = plan;
-    let end = moves_of(depth);
+    let end = (depth as usize).min(MOVE_LIMIT);
     let rules = count as usize;
-    let newest = moves[end - 1] as usize;
+    let newest = plan[end - 1] as usize;
     if reach == 2 {
         return newest * rules + 1;
     }
     if depth == 1 {
         return newest * rules + 1;
     }
-    let before = moves[end - 2] as usize;
+    let before = plan[end - 2] as usize;
     (before * rules + newest) * rules + 1
 }

@@ -7,4 +7,4 @@ pub mod LentLaws
 pub mod ExploredLaws
 pub mod AnswerLaws
 pub mod RefusalLaws
-pub mod FitLaws
+pub mod ByteLaws

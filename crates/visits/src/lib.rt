@@ -23,15 +23,21 @@ use search_states::{goes_on, put_after, start_state};
 // The least cost beyond the limit while no sequence there is met: no cost is larger.
 const TOP_COST: u16 = 65535;
 
+// What is lent all through a search: the rules' lines and costs, the look-up, the goal and the limits.
+#[derive(Clone, Copy)]
+struct Task<'a> {
+    conditions: &'a [[u8; PLACE_COUNT]; RULE_PLACES],
+    effects: &'a [[u8; PLACE_COUNT]; RULE_PLACES],
+    costs: &'a [u8; RULE_PLACES],
+    blocked: &'a [u8; 30784],
+    goal: &'a [u8],
+    limits: Limits,
+}
+
 // Visits a sequence and all that extends it by at most `left` moves: the first `depth` moves of the plan, which have
 // led to the state at that cost. Beyond the limit it extends no sequence.
 fn visit_from(
-    conditions: &[[u8; PLACE_COUNT]; RULE_PLACES],
-    effects: &[[u8; PLACE_COUNT]; RULE_PLACES],
-    costs: &[u8; RULE_PLACES],
-    blocked: &[u8; 30784],
-    goal: &[u8],
-    limits: Limits,
+    task: &Task<'_>,
     state: &[u8; PLACE_COUNT],
     plan: &[u8; MOVE_LIMIT],
     depth: u8,
@@ -39,17 +45,35 @@ fn visit_from(
     left: usize,
     progress: Progress,
 ) -> Progress
-    requires { Lent conditions.now effects.now goal.now limits
-        × Reached costs.now limits state.now plan.now depth cost left }
-    ensures { result
-        ≡ visits_from conditions.now effects.now costs.now blocked.now
-        goal.now limits left (take depth plan.now) state.now progress }
+    requires { let lent = task.now in
+        Lent lent.conditions.now lent.effects.now lent.goal.now lent.limits
+        × Reached lent.costs.now lent.limits state.now plan.now depth cost left }
+    ensures { let lent = task.now in
+        result ≡ visits_from lent.conditions.now lent.effects.now lent.costs.now lent.blocked.now
+        lent.goal.now lent.limits left (take depth plan.now) state.now progress }
 {
+    let limits = task.limits;
     // most sequences are of this kind: what they make of the progress goes straight to the caller
     if left == 0 {
-        return noted(goal, limits.step_limit, state, plan, depth, cost, progress);
+        return noted(
+            task.goal,
+            limits.step_limit,
+            state,
+            plan,
+            depth,
+            cost,
+            progress,
+        );
     }
-    let mut carried = noted(goal, limits.step_limit, state, plan, depth, cost, progress);
+    let mut carried = noted(
+        task.goal,
+        limits.step_limit,
+        state,
+        plan,
+        depth,
+        cost,
+        progress,
+    );
     // what extends a sequence beyond the limit costs no less
     if carried.exceeded {
         return carried;
@@ -57,28 +81,20 @@ fn visit_from(
     let first = first_place(limits.reach, limits.count as u8, plan, depth);
     let end = depth as usize;
     let mut longer = *plan;
-    let prices: &[u8] = costs;
-    let mut k: usize = 0;
-    while k < limits.count {
-        let total = cost as u32 + prices[k] as u32;
+    for k in 0..limits.count {
+        let total = cost as u32 + task.costs[k] as u32;
         if goes_on(
-            blocked[first + k],
+            &limits,
+            task.blocked[first + k],
             total,
-            limits.max_cost,
-            limits.positions,
-            &conditions[k],
+            &task.conditions[k],
             state,
         ) {
             let mut next = [0u8; PLACE_COUNT];
-            put_after(limits.positions, &effects[k], state, &mut next);
+            put_after(limits.positions, &task.effects[k], state, &mut next);
             longer[end] = k as u8 + 1;
             carried = visit_from(
-                conditions,
-                effects,
-                costs,
-                blocked,
-                goal,
-                limits,
+                task,
                 &next,
                 &longer,
                 depth + 1,
@@ -87,7 +103,6 @@ fn visit_from(
                 carried,
             );
         }
-        k += 1;
     }
     carried
 }
@@ -100,16 +115,19 @@ pub fn explored(set: RuleSet, query: Query<'_>, plan_size: usize) -> Result<Prog
         IfOk result (λ progress. progress ≡ whole_progress set asked) }
 {
     query_refusal(set, query, plan_size)?;
-    let conditions = conditions_of(set);
-    let effects = effects_of(set);
-    let costs = costs_of(set);
-    let blocked = lookup_of(set.count, query.table);
-    let limits = Limits {
-        positions: set.positions as usize,
-        count: set.count as usize,
-        reach: query.reach,
-        max_cost: query.max_cost,
-        step_limit: query.step_limit,
+    let task = Task {
+        conditions: &conditions_of(set),
+        effects: &effects_of(set),
+        costs: &costs_of(set),
+        blocked: &lookup_of(set.count, query.table),
+        goal: query.goal,
+        limits: Limits {
+            positions: set.positions as usize,
+            count: set.count as usize,
+            reach: query.reach,
+            max_cost: query.max_cost,
+            step_limit: query.step_limit,
+        },
     };
     let moves = [NO_MOVE; MOVE_LIMIT];
     let best = Best {
@@ -125,19 +143,5 @@ pub fn explored(set: RuleSet, query: Query<'_>, plan_size: usize) -> Result<Prog
         least: TOP_COST,
     };
     let state = start_state(query.start);
-    let progress = visit_from(
-        &conditions,
-        &effects,
-        &costs,
-        &blocked,
-        query.goal,
-        limits,
-        &state,
-        &moves,
-        0,
-        0,
-        query.max_moves,
-        blank,
-    );
-    Ok(progress)
+    Ok(visit_from(&task, &state, &moves, 0, 0, query.max_moves, blank))
 }

@@ -32,31 +32,31 @@ pub returns-then-reach-eq2 : goal.returns-then-reach-eq2
 returns-then-reach-eq2 c =
     let m = c.args.count in
     let n = min (c.args.reach - 1) 2 in
-    let d = c.moves_of-end.result in
+    let d = c.min-end.result in
     let plan = c.args.plan.now in
     let alone = last_none m (n - 1) (take (d - 1) plan) (omega (arith, c.if-reach-eq2.true)) in
     let one = last_one m n d plan (omega (arith, c.if-reach-eq2.true)) (omega arith) (omega arith) alone in
-    let e = counted c.args.depth d plan (omega arith) c.moves_of-end.ensures in
+    let e = counted c.args.depth d plan (omega arith) c.min-end.ensures in
     ap (λ j. j * m + 1) (one ∙ ap (λ q. index_of m (last n q)) e)
 
 pub returns-then-depth-eq1 : goal.returns-then-depth-eq1
 returns-then-depth-eq1 c =
     let m = c.args.count in
     let n = min (c.args.reach - 1) 2 in
-    let d = c.moves_of-end.result in
+    let d = c.min-end.result in
     let plan = c.args.plan.now in
-    let alone = last_empty m (n - 1) (d - 1) plan (omega (arith, c.moves_of-end.ensures, c.if-depth-eq1.true)) in
+    let alone = last_empty m (n - 1) (d - 1) plan (omega (arith, c.min-end.ensures, c.if-depth-eq1.true)) in
     let one = last_one m n d plan (omega (arith, c.if-reach-le1.false)) (omega arith) (omega arith) alone in
-    let e = counted c.args.depth d plan (omega arith) c.moves_of-end.ensures in
+    let e = counted c.args.depth d plan (omega arith) c.min-end.ensures in
     ap (λ j. j * m + 1) (one ∙ ap (λ q. index_of m (last n q)) e)
 
 pub returns : goal.returns
 returns c =
     let m = c.args.count in
     let n = min (c.args.reach - 1) 2 in
-    let d = c.moves_of-end.result in
+    let d = c.min-end.result in
     let plan = c.args.plan.now in
     let both : n ≡ 2 = omega (arith, c.if-reach-le1.false, c.if-reach-eq2.false) in
     let two = last_two m n d plan both (omega arith) (omega arith) in
-    let e = counted c.args.depth d plan (omega arith) c.moves_of-end.ensures in
+    let e = counted c.args.depth d plan (omega arith) c.min-end.ensures in
     ap (λ j. j * m + 1) (two ∙ ap (λ q. index_of m (last n q)) e)

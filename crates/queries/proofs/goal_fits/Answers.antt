@@ -4,7 +4,7 @@ use Rattle.std.proofs.lemmas.Iterator.{YieldsList-from_slice, YieldsList-from_zi
 use Rattle.std.proofs.lemmas.Iterator.Search.{all_from_yields_List}
 use borrow.Author.Tests.{ne_eqb}
 use Rattle.search_spec.specs.Query.{any_value, goal_fits}
-use Rattle.search_laws.proofs.FitLaws.{all_fit}
+use Rattle.search_laws.proofs.ByteLaws.{all_fit}
 use Rattle.queries.proofs.goal_fits.Goals as goal
 
 pub returns-then-goal-set : goal.returns-then-goal-set

@@ -4,7 +4,7 @@ use Rattle.std.proofs.lemmas.Iterator.{YieldsList-from_slice, YieldsList-from_zi
 use Rattle.std.proofs.lemmas.Iterator.Search.{all_from_yields_List}
 use borrow.Author.Tests.{ne_eqb}
 use Rattle.search_spec.specs.Query.{start_fits}
-use Rattle.search_laws.proofs.FitLaws.{all_fit}
+use Rattle.search_laws.proofs.ByteLaws.{all_fit}
 use Rattle.queries.proofs.start_fits.Goals as goal
 
 pub returns-then-start-set : goal.returns-then-start-set

@@ -31,7 +31,6 @@ returns-then-carried t c =
 pub loop-k-init : goal.loop-k-init
 loop-k-init t c =
     let reached = c.requires.1 in (
-      omega arith,
       refl,
       λ number. plan_more 32 no_move _ _ reached.rest number (omega (arith, reached.room, c.if-left-eq0.false)),
     )
@@ -45,8 +44,8 @@ overflow_add-first t c =
     c.first_place-first.ensures in
     omega (arith, c.loop-k-test.true, first.1, count_bound _ _ lent.count_limits.1 lent.reach_limits.1)
 
-pub bounds-blocked-first : goal.bounds-blocked-first
-bounds-blocked-first t c =
+pub bounds-task-first : goal.bounds-task-first
+bounds-task-first t c =
     let lent = c.requires.0 in
     let s = c.args in
     let first = place-fits _ _ (take s.depth s.plan.now) _ lent.reach_limits.0 lent.reach_limits.1 c.requires.1.rules
@@ -60,7 +59,7 @@ visit_from-carried-requires t c =
       omega arith,
       (
         lent,
-        reached_next _ _ _ _ _ _ _ reached _ _ (c.loop-k.invariant.2 _) _ _ _ lent c.loop-k-test.true _
+        reached_next _ _ _ _ _ _ _ reached _ _ (c.loop-k.invariant.1 _) _ _ _ lent c.loop-k-test.true _
             c.put_after.ensures _ (omega (arith, reached.room, c.if-left-eq0.false)),
       ),
     )
@@ -75,18 +74,16 @@ loop-k-preserved t c =
     c.first_place-first.ensures in
     elim c.if-goes_on.branch [
       | then-goes_on w ↦ (
-        omega (arith, c.loop-k-test.true),
         turn_taken _ _ _ _ _ _ _ _ _ first.0 reached.total lent.reach_limits.0 _ _ _ _ _ c.loop-k-test.true
-            l.invariant.1 lent reached.state_end _ c.goes_on.ensures w.if-goes_on.true _
-            (plan_next _ _ _ _ _ _ _ reached _ _ (l.invariant.2 _)) _ w.put_after.ensures w.visit_from-carried.result _
+            l.invariant.0 lent reached.state_end _ c.goes_on.ensures.goes w.if-goes_on.true _
+            (plan_next _ _ _ _ _ _ _ reached _ _ (l.invariant.1 _)) _ w.put_after.ensures w.visit_from-carried.result _
             w.carried-is w.visit_from-carried.ensures,
-        λ number. rw w.longer-is (set-set l.longer s.depth (l.k + 1) number ∙ l.invariant.2 number),
+        λ number. rw w.longer-is (set-set l.longer s.depth (l.k + 1) number ∙ l.invariant.1 number),
       )
       | else-goes_on w ↦ (
-        omega (arith, c.loop-k-test.true),
         rw w.carried-is (turn_left _ _ _ _ _ _ _ _ _ first.0 reached.total lent.reach_limits.0 _ _ _ _ _
-            c.loop-k-test.true l.invariant.1 lent reached.state_end _ c.goes_on.ensures w.if-goes_on.false),
-        λ number. rw w.longer-is (l.invariant.2 number),
+            c.loop-k-test.true l.invariant.0 lent reached.state_end _ c.goes_on.ensures.goes w.if-goes_on.false),
+        λ number. rw w.longer-is (l.invariant.1 number),
       )
     ]
 
@@ -95,5 +92,5 @@ returns t c =
     let asked = c.requires in
     let noted = noted-plan _ _ _ _ _ _ _ _ asked.0.goal_limit (omega (arith, asked.1.room)) asked.1.rest
     c.noted-carried.ensures in
-    sym (loop-end _ _ _ _ _ _ _ _ _ _ _ c.loop-k-test.false) ∙ c.loop-k.invariant.1
+    sym (loop-end _ _ _ _ _ _ _ _ _ _ _ c.loop-k-test.false) ∙ c.loop-k.invariant.0
     ∙ whole _ _ _ _ _ _ _ _ _ _ _ _ c.if-left-eq0.false asked.1.total noted

@@ -1,7 +1,7 @@
 -- `visits::visit_from` meets its contract, by a measure: each call of itself has one move less to come.
 -- The invariant: what the rules from place k on make of the progress is what all rules make of the progress that the
 -- sequence itself leaves; and the longer plan lacks only its last move.
-use Rattle.std.proofs.Common.{◌-◌, ◌≡◌, take, set, ℕ, ◌≤◌, [], ◌∷◌, ◌++◌}
+use Rattle.std.proofs.Common.{◌-◌, ◌≡◌, take, set, ℕ, [], ◌∷◌, ◌++◌}
 use Rattle.theory_spec.specs.Lists.{padded}
 use Rattle.search_spec.specs.Searched.{no_move}
 use Rattle.search_laws.proofs.VisitLoopLaws.{rest_from}
@@ -13,12 +13,9 @@ decreases-visit_from l = l.left
 
 abbrev pub invariant-loop-k : goal.invariant-loop-k
 invariant-loop-k l =
-    (l.k ≤ l.limits.count)
-    × (rest_from l.conditions l.effects l.costs l.blocked l.goal l.limits (l.left - 1) (take l.depth l.plan) l.state l.k
-    l.carried
-    ≡ rest_from l.conditions l.effects l.costs l.blocked l.goal l.limits (l.left - 1) (take l.depth l.plan) l.state 0
-    l.initial.carried)
+    let lent = l.task in
+    (rest_from lent.conditions.now lent.effects.now lent.costs.now lent.blocked.now lent.goal.now lent.limits (l.left - 1)
+    (take l.depth l.plan) l.state l.k l.carried
+    ≡ rest_from lent.conditions.now lent.effects.now lent.costs.now lent.blocked.now lent.goal.now lent.limits (l.left - 1)
+    (take l.depth l.plan) l.state 0 l.initial.carried)
     × ((number : ℕ) → set l.longer l.depth number ≡ padded 32 no_move (take l.depth l.plan ++ (number ∷ [])))
-
-abbrev pub decreases-loop-k : goal.decreases-loop-k
-decreases-loop-k l = l.limits.count - l.k

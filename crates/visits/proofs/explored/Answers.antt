@@ -8,13 +8,13 @@ use Rattle.search_laws.proofs.ExploredLaws.{explored-whole, unrefused}
 use Rattle.search_laws.proofs.LentLaws.{lent-whole, reached-first}
 use Rattle.visits.proofs.explored.Goals as goal
 
-pub visit_from-progress-requires : goal.visit_from-progress-requires
-visit_from-progress-requires c =
+pub visit_from-requires : goal.visit_from-requires
+visit_from-requires c =
     let a = c.args in
     let query = query_of a.query in
     let none = unrefused a.set query a.plan_size
     (sym c.query_refusal.ensures ∙ ap refusal_number c.in_ok-query_refusal.was) in (
-      lent-whole a.set query a.plan_size none _ _ c.conditions_of-conditions.ensures c.effects_of-effects.ensures,
+      lent-whole a.set query a.plan_size none _ _ c.conditions_of.ensures c.effects_of.ensures,
       reached-first a.set query a.plan_size none _ _ c.start_state-state.ensures,
     )
 
@@ -25,6 +25,6 @@ returns-clause-progress c =
     let query = query_of a.query in
     let none = unrefused a.set query a.plan_size
     (sym c.query_refusal.ensures ∙ ap refusal_number c.in_ok-query_refusal.was) in
-    explored-whole a.set query a.plan_size none _ c.lookup_of-blocked.ensures _ _ _ _ _ _
-    c.conditions_of-conditions.ensures c.effects_of-effects.ensures c.costs_of-costs.ensures c.start_state-state.ensures
-    refl c.visit_from-progress.ensures
+    explored-whole a.set query a.plan_size none _ c.lookup_of.ensures _ _ _ _ _ _
+    c.conditions_of.ensures c.effects_of.ensures c.costs_of.ensures c.start_state-state.ensures
+    refl c.visit_from.ensures
