@@ -1,12 +1,9 @@
 // What the case programs have in common: the parts of a line.
 #![tactic(auto)]
 
-ghost use Rattle.std.specs.Prelude.{◌≡◌, map, ◌≤◌, min, length};
+ghost use Rattle.std.specs.Prelude.{◌≡◌, map, ◌≤◌, ◌<◌, [], min, length, take, codes};
 ghost use Rattle.std.proofs.Math.Seq.{paste};
 ghost use Rattle.cases_laws.specs.How.Texts.{line_fed, index_of, up_to, behind, with_digit, number_of};
-
-// The largest number.
-const LARGEST: usize = 18446744073709551615;
 
 // A byte of a rule file that is written on one line: `/` stands for a line feed.
 #[tactic(auto, unfolding(cases_laws::specs::How::Texts::line_fed))]
@@ -25,15 +22,12 @@ pub fn decode(input: &[u8], text: &mut [u8]) -> usize
     ensures value { result ≡ min (length input.now) (length text.old) }
     ensures text_after { text.new ≡ paste text.old 0 (map line_fed input.now) result }
 {
-    let mut count: usize = 0;
-    while count < text.len() {
-        if input.len() <= count {
-            return count;
-        }
-        text[count] = line_fed(input[count]);
-        count += 1;
+    let size = input.len().min(text.len());
+    // by index: no clause says what a loop over a `zip` of `iter_mut` writes
+    for i in 0..size {
+        text[i] = line_fed(input[i]);
     }
-    count
+    size
 }
 
 // The first place of a byte in a text; the text's length where there is none.
@@ -65,20 +59,34 @@ pub fn behind(byte: u8, text: &[u8]) -> &[u8]
     &text[place + 1..]
 }
 
+// The two parts of a text that the first place of a byte divides; where there is none, all of it and nothing.
+pub fn split_once(byte: u8, text: &[u8]) -> (&[u8], &[u8])
+    ensures front { result.0.now ≡ up_to byte text.now }
+    ensures rest { result.1.now ≡ behind byte text.now }
+{
+    (up_to(byte, text), behind(byte, text))
+}
+
+// A line as it is printed again: its first 120 bytes, and two dots where it has more.
+pub fn shown(line: &[u8]) -> (&[u8], &[u8])
+    ensures front { result.0.now ≡ take 120 line.now }
+    ensures whole { length line.now ≤ 120 → result.1.now ≡ [] }
+    ensures dots { 120 < length line.now → result.1.now ≡ codes ".." }
+{
+    if line.len() <= 120 {
+        return (line, b"");
+    }
+    (&line[..120], b"..")
+}
+
 // A number with one digit more; the largest one where that is too large.
 #[tactic(auto, unfolding(cases_laws::specs::How::Texts::with_digit))]
 fn with_digit(number: usize, digit: u8) -> usize
     ensures { result ≡ with_digit digit number }
 {
-    if 1844674407370955161 < number {
-        return LARGEST;
-    }
-    let tens = 10 * number;
-    let ones = (digit % 16) as usize;
-    if LARGEST - tens < ones {
-        return LARGEST;
-    }
-    tens + ones
+    number
+        .saturating_mul(10)
+        .saturating_add((digit % 16) as usize)
 }
 
 // The number of a text: each byte is the digit of its low four bits; the largest number where that is too large.
@@ -86,9 +94,6 @@ fn with_digit(number: usize, digit: u8) -> usize
 pub fn number_of(text: &[u8]) -> usize
     ensures { result ≡ number_of text.now }
 {
-    let mut number: usize = 0;
-    for i in 0..text.len() {
-        number = with_digit(number, text[i]);
-    }
-    number
+    text.iter()
+        .fold(0, |number, digit| with_digit(number, *digit))
 }

@@ -1,14 +1,14 @@
 -- The turns of the loops over a text, and where its parts end.
 -- Assumes nothing.
-use mathlib.Core.Path.{◌≡◌, sym, ap, subst, ◌∙◌}
-use mathlib.Core.List.{List, map}
+use mathlib.Core.Path.{◌≡◌, refl, sym, ap, subst, ◌∙◌}
+use mathlib.Core.List.{List, [], ◌∷◌, map}
 use Prim.Native.Nat.{ℕ, suc, ◌+◌, ◌*◌, ◌-◌, ◌%◌, ◌≤◌, ◌<◌}
 use native.Mathlib.Nat.{min-eq_left, min-eq_right}
 use native.Mathlib.Numerals.{add-one}
 use native.Mathlib.Omega.{arith}
 use lib.ListN.{length, get_or, set, take, drop, length-map, length-drop, drop_of_length-le, get_or-map}
-use lib.Seq.{take_all, take-length, drop-cons, paste, paste-suc}
-use Rattle.std.specs.List.{position}
+use lib.Seq.{take_all, take-length, paste, paste-suc}
+use Rattle.std.specs.List.{fold, position}
 use Rattle.std.specs.Option.{unwrap_or}
 use Rattle.std.proofs.Common.{not, cond, eqb, ltb, Some, None}
 use Rattle.std.proofs.lemmas.Bool.Decides.{nat_tests}
@@ -66,11 +66,11 @@ pub digit_large : (byte number : ℕ) → largest ≤ 10 * number + byte % 16 �
 unfolding with_digit
 digit_large byte number h = sym (min-eq_right h)
 
--- the number: what is left of the text at i makes it of what was read
-module _ (text : List ℕ) (i number : ℕ) where
-  pub number_more : fold_over with_digit number (drop i text) ≡ number_of text → i < length text
-      → fold_over with_digit (with_digit (get_or text i 0) number) (drop (i + 1) text) ≡ number_of text
-  number_more inv h = sym (rw (drop-cons text i 0 h, add-one i)) ∙ inv
-
-  pub number-end : fold_over with_digit number (drop i text) ≡ number_of text → length text ≤ i → number ≡ number_of text
-  number-end inv h = sym (rw (drop_of_length-le text {i = i} h)) ∙ inv
+-- the number, as the code goes over the digits
+pub digits_folded : (text : List ℕ) → fold (λ number digit. with_digit digit number) 0 text ≡ number_of text
+unfolding number_of
+digits_folded text = folded 0 text
+  where
+    folded : (number : ℕ) (text : List ℕ) → fold (λ n digit. with_digit digit n) number text ≡ fold_over with_digit number text
+    folded number [] = refl
+    folded number (digit ∷ text) = folded (with_digit digit number) text
