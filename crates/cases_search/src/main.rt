@@ -45,611 +45,352 @@
 // 3,000.
 #![tactic(auto)]
 
-ghost use Rattle.std.specs.Prelude.{◌≡◌, ◌≤◌, length, IfOk, OnErr};
-
-use bounded::smaller;
-use buffers::fill_from;
-use cases_buffers::{put_byte, put_entry};
-use cases_common::{behind, decode, find, number_of, up_to};
+use cases_buffers::put_entry;
+use cases_common::{decode, number_of, shown, split_once, up_to};
 use explain_spec::Explanation;
 use model_spec::RuleSet;
 use search_spec::{Answer, NO_MOVE, Tally};
-use standard_input::{buffer, large_buffer, read_full};
+use standard_input::{large_buffer, read_full};
+use std::alloc::{AllocError, Global};
 use std::io;
 use tables::{KEPT, entry_at};
 
-// Puts the numbers of a comma list into a buffer, as far as there is room, 255 for each that is larger; gives how many
-// these are. `-` is the empty list.
-fn list_of(text: &[u8], bytes: &mut [u8]) -> usize
-    ensures { result ≤ length bytes.old }
-{
-    let mut count: usize = 0;
-    let mut from: usize = 0;
-    if find(b'-', text) == 0 {
-        return 0;
-    }
-    while count < bytes.len() {
-        if text.len() <= from {
-            return count;
-        }
-        let rest = &text[from..];
-        let size = find(b',', rest);
-        put_byte(count, smaller(number_of(&rest[0..size]), 255), bytes);
-        count += 1;
-        from += size + 1;
-    }
-    count
-}
+// The most bytes of a table.
+const TABLE_SIZE: usize = 65536;
 
-// What the lines before leave: the rule set, how many bytes the table that stands has, and the tally.
-#[derive(Clone, Copy)]
+// The most bytes of a plan buffer, and the most numbers of a list.
+const PLAN_SIZE: usize = 4096;
+
+// What the lines before leave: the rule set, the table, the tally and the plan buffer.
+#[derive(Drop)]
 struct Standing {
     set: RuleSet,
-    size: usize,
+    table: Vec<u8>,
     tally: Tally,
+    plan: Vec<u8>,
 }
 
-// An answer, and the tally updated by it.
-#[derive(Clone, Copy)]
-struct Counted {
-    answer: Answer,
-    tally: Tally,
+// What `q`, `k` and `x` ask. The last text is the room, or the proposal.
+#[derive(Drop)]
+struct Query<'a> {
+    reach: usize,
+    start: Vec<u8>,
+    goal: Vec<u8>,
+    max_moves: usize,
+    max_cost: u16,
+    step_limit: u32,
+    last: &'a [u8],
 }
 
-fn print(rt: &impl Print, text: &[u8]) -> io::Result<()> {
-    rt.write_all(text)
+// The numbers of a comma list, at most 4,096, 255 for each that is larger. `-` is the empty list.
+fn list_of(alloc: Global, text: &[u8]) -> Result<Vec<u8>, AllocError> {
+    if text.first() == Some(&b'-') {
+        return Ok(Vec::new(alloc));
+    }
+    text.split_inclusive(|b| *b == b',')
+        .take(PLAN_SIZE)
+        .map(|part| number_of(up_to(b',', part)).min(255) as u8)
+        .collect(alloc)
 }
 
-fn print_number(rt: &impl Print, n: u64) -> io::Result<()> {
-    rt.print(n)
+// The query of a text.
+fn query_of(alloc: Global, text: &[u8]) -> Result<Query<'_>, AllocError> {
+    let (reach, rest) = split_once(b' ', text);
+    let (start, rest) = split_once(b' ', rest);
+    let (goal, rest) = split_once(b' ', rest);
+    let (moves, rest) = split_once(b' ', rest);
+    let (cost, rest) = split_once(b' ', rest);
+    let (limit, last) = split_once(b' ', rest);
+    Ok(Query {
+        reach: number_of(reach),
+        start: list_of(alloc, start)?,
+        goal: list_of(alloc, goal)?,
+        max_moves: number_of(moves),
+        max_cost: number_of(cost).min(65535) as u16,
+        step_limit: number_of(limit).min(4294967295) as u32,
+        last,
+    })
 }
 
-fn print_byte(rt: &impl Print, n: u8) -> io::Result<()> {
-    print_number(rt, n as u64)
+// The tally of a comma list.
+fn tally_of(text: &[u8]) -> Tally {
+    let (solved, rest) = split_once(b',', text);
+    let (unsolvable, rest) = split_once(b',', rest);
+    let (limited, rest) = split_once(b',', rest);
+    let (refused, steps) = split_once(b',', rest);
+    Tally {
+        solved: number_of(solved) as u64,
+        unsolvable: number_of(unsolvable) as u64,
+        limited: number_of(limited) as u64,
+        refused: number_of(refused) as u64,
+        steps: number_of(steps) as u64,
+    }
 }
 
 // Puts all entries of a text, as `6:7,16:12`, into the table.
 fn put_entries(text: &[u8], table: &mut [u8]) {
-    let mut from: usize = 0;
-    while from < text.len() {
-        let rest = &text[from..];
-        let size = find(b',', rest);
-        let entry = &rest[0..size];
-        let index = number_of(up_to(b':', entry));
-        let value = number_of(behind(b':', entry));
-        put_entry(index, value, table);
-        from += size + 1;
+    for part in text.split_inclusive(|b| *b == b',') {
+        let (index, value) = split_once(b':', up_to(b',', part));
+        put_entry(number_of(index), number_of(value), table);
     }
-}
-
-// 1 where the entry at an index is a mark, else 0.
-fn mark(index: usize, table: &[u8]) -> u64
-    ensures { result ≤ 1 }
-{
-    if entry_at(table, index) == KEPT {
-        return 0;
-    }
-    1
 }
 
 // How many marks a table has.
-fn print_marks(rt: &impl Print, table: &[u8]) -> io::Result<()> {
-    let mut marks: u64 = 0;
-    for i in 0..table.len() / 2 {
-        marks += mark(i, table);
-    }
-    print_number(rt, marks)?;
-    print(rt, b" marks")
+fn marks_of(table: &[u8]) -> usize {
+    (0..table.len() / 2)
+        .filter(|i| entry_at(table, *i) != KEPT)
+        .count()
 }
 
-// Builds a table over bytes of 170.
-fn print_built(rt: &impl Print, set: RuleSet, reach: usize, table: &mut [u8]) -> io::Result<()> {
-    fill_from(table, 0, 170);
-    let answer = builder::build_table(set, reach, table);
-    print_byte(rt, answer.outcome)?;
+// The answer to `b`; gives the table that now stands, built over bytes of 170.
+fn built(rt: &(impl Print + AllocGlobal), set: RuleSet, text: &[u8]) -> io::Result<Vec<u8>> {
+    let (reach, size) = split_once(b' ', text);
+    let mut table = vec![in rt.alloc(); 170; number_of(size).min(TABLE_SIZE)]?;
+    let answer = builder::build_table(set, number_of(reach), &mut table);
+    print!(rt; "{}", answer.outcome)?;
     if answer.outcome == 0 {
-        print(rt, b"; ")?;
-        print_marks(rt, table)?;
+        print!(rt; "; {} marks", marks_of(&table))?;
     }
-    Ok(())
+    Ok(table)
 }
 
-// The answer to `b`; gives the size of the table that now stands.
-fn built(rt: &impl Print, set: RuleSet, text: &[u8], table: &mut [u8]) -> io::Result<usize>
-    ensures within { IfOk result (λ size. size ≤ length table.old) }
-    ensures err { OnErr result (length table.new ≡ length table.old) }
-{
-    let reach = number_of(up_to(b' ', text));
-    let size = smaller(number_of(behind(b' ', text)), table.len());
-    print_built(rt, set, reach, &mut table[0..size])?;
-    Ok(size)
-}
-
-// Makes a table of these entries, the others kept.
-fn print_made(rt: &impl Print, entries: &[u8], table: &mut [u8]) -> io::Result<()> {
-    fill_from(table, 0, 255);
-    put_entries(entries, table);
-    print_marks(rt, table)
-}
-
-// The answer to `t`; gives the size of the table that now stands.
-fn made(rt: &impl Print, text: &[u8], table: &mut [u8]) -> io::Result<usize>
-    ensures within { IfOk result (λ size. size ≤ length table.old) }
-    ensures err { OnErr result (length table.new ≡ length table.old) }
-{
-    let size = smaller(number_of(up_to(b' ', text)), table.len());
-    print_made(rt, behind(b' ', text), &mut table[0..size])?;
-    Ok(size)
+// The answer to `t`; gives the table that now stands, of these entries, the others kept.
+fn made(rt: &(impl Print + AllocGlobal), text: &[u8]) -> io::Result<Vec<u8>> {
+    let (size, entries) = split_once(b' ', text);
+    let mut table = vec![in rt.alloc(); 255; number_of(size).min(TABLE_SIZE)]?;
+    put_entries(entries, &mut table);
+    print!(rt; "{} marks", marks_of(&table))?;
+    Ok(table)
 }
 
 // The moves of a plan, with commas between.
 fn print_moves(rt: &impl Print, plan: &[u8]) -> io::Result<()> {
-    for i in 0..plan.len() {
+    for (i, number) in plan.iter().enumerate() {
         if i != 0 {
-            print(rt, b",")?;
+            print!(rt; ",")?;
         }
-        print_byte(rt, plan[i])?;
+        print!(rt; "{number}")?;
     }
     Ok(())
 }
 
-// Whether a part of the plan buffer is 255 throughout.
-fn blank(plan: &[u8]) -> bool {
-    for i in 0..plan.len() {
-        if plan[i] != NO_MOVE {
-            return false;
-        }
-    }
-    true
-}
-
 // The numbers of a search's answer.
 fn print_numbers(rt: &impl Print, answer: Answer) -> io::Result<()> {
-    print_byte(rt, answer.outcome)?;
-    print(rt, b"; cost ")?;
-    print_number(rt, answer.cost as u64)?;
-    print(rt, b"; length ")?;
-    print_byte(rt, answer.length)?;
-    print(rt, b"; steps ")?;
-    print_number(rt, answer.steps as u64)?;
-    print(rt, b"; floor ")?;
-    print_number(rt, answer.floor as u64)
-}
-
-// A plan of this length, and what else is in the plan buffer.
-fn print_plan(rt: &impl Print, length: usize, plan: &[u8]) -> io::Result<()> {
-    print(rt, b"; plan ")?;
-    print_moves(rt, answers::plan_part(plan, length))?;
-    let size = smaller(length, plan.len());
-    if blank(&plan[size..]) {
-        return print(rt, b"; rest 255");
-    }
-    print(rt, b"; rest not 255")
+    print!(rt;
+        "{}; cost {}; length {}",
+        answer.outcome, answer.cost, answer.length
+    )?;
+    print!(rt; "; steps {}; floor {}", answer.steps, answer.floor)
 }
 
 // The answer of a search, and what it left in the plan buffer.
 fn print_answer(rt: &impl Print, answer: Answer, plan: &[u8]) -> io::Result<()> {
+    let length = answer.length as usize;
     print_numbers(rt, answer)?;
-    print_plan(rt, answer.length as usize, plan)
+    print!(rt; "; plan ")?;
+    print_moves(rt, answers::plan_part(plan, length))?;
+    let rest = &plan[length.min(plan.len())..];
+    if rest.iter().all(|b| *b == NO_MOVE) {
+        return print!(rt; "; rest 255");
+    }
+    print!(rt; "; rest not 255")
 }
 
-// A search with a plan buffer over bytes of 170.
+// The answer to `q`: a search with a plan buffer of its own, over bytes of 170.
 fn print_search(
-    rt: &impl Print,
-    set: RuleSet,
-    reach: usize,
-    table: &[u8],
-    start: &[u8],
-    goal: &[u8],
-    moves: usize,
-    cost: u16,
-    limit: u32,
-    plan: &mut [u8],
+    rt: &(impl Print + AllocGlobal),
+    standing: &Standing,
+    query: &Query,
 ) -> io::Result<()> {
-    fill_from(plan, 0, 170);
-    let answer = search::search(set, reach, table, start, goal, moves, cost, limit, plan);
-    print_answer(rt, answer, plan)
+    let mut plan = vec![in rt.alloc(); 170; number_of(query.last).min(PLAN_SIZE)]?;
+    let answer = search::search(
+        standing.set,
+        query.reach,
+        &standing.table,
+        &query.start,
+        &query.goal,
+        query.max_moves,
+        query.max_cost,
+        query.step_limit,
+        &mut plan,
+    );
+    print_answer(rt, answer, &plan)
 }
 
 // The counts of a tally, with commas between.
 fn print_tally(rt: &impl Print, tally: Tally) -> io::Result<()> {
-    print_number(rt, tally.solved)?;
-    print(rt, b",")?;
-    print_number(rt, tally.unsolvable)?;
-    print(rt, b",")?;
-    print_number(rt, tally.limited)?;
-    print(rt, b",")?;
-    print_number(rt, tally.refused)?;
-    print(rt, b",")?;
-    print_number(rt, tally.steps)
+    print!(rt; "{},{},{},", tally.solved, tally.unsolvable, tally.limited)?;
+    print!(rt; "{},{}", tally.refused, tally.steps)
 }
 
-// A search with a tally that is kept in a local.
-fn counted_search(
-    set: RuleSet,
-    reach: usize,
-    table: &[u8],
-    start: &[u8],
-    goal: &[u8],
-    max_moves: usize,
-    max_cost: u16,
-    step_limit: u32,
-    plan: &mut [u8],
-    tally: Tally,
-) -> Counted {
-    let mut local = tally;
+// The answer to `k`: a search that updates the tally, with the plan buffer as it is.
+fn print_tallied_search(rt: &impl Print, standing: &mut Standing, query: &Query) -> io::Result<()> {
+    let room = number_of(query.last).min(standing.plan.len());
+    let plan = &mut standing.plan[..room];
     let answer = tallied_search::search_with_tally(
-        set, reach, table, start, goal, max_moves, max_cost, step_limit, plan, &mut local,
+        standing.set,
+        query.reach,
+        &standing.table,
+        &query.start,
+        &query.goal,
+        query.max_moves,
+        query.max_cost,
+        query.step_limit,
+        plan,
+        &mut standing.tally,
     );
-    Counted {
-        answer,
-        tally: local,
-    }
-}
-
-// The update of a tally that is kept in a local.
-fn updated(tally: Tally, outcome: u8, steps: u32) -> Tally {
-    let mut local = tally;
-    tally::update(&mut local, outcome, steps);
-    local
-}
-
-// A search that updates the tally, with a plan buffer as it is; gives the tally.
-fn print_tallied_search(
-    rt: &impl Print,
-    set: RuleSet,
-    reach: usize,
-    table: &[u8],
-    start: &[u8],
-    goal: &[u8],
-    moves: usize,
-    cost: u16,
-    limit: u32,
-    plan: &mut [u8],
-    tally: Tally,
-) -> io::Result<Tally> {
-    let counted = counted_search(
-        set, reach, table, start, goal, moves, cost, limit, plan, tally,
-    );
-    let answer = counted.answer;
-    let next = counted.tally;
     print_answer(rt, answer, plan)?;
-    print(rt, b"; tally ")?;
-    print_tally(rt, next)?;
-    Ok(next)
+    print!(rt; "; tally ")?;
+    print_tally(rt, standing.tally)
 }
 
 // The outcome and the reason of an explanation, with what the reason names.
 fn print_reason(rt: &impl Print, answer: Explanation) -> io::Result<()> {
-    print_byte(rt, answer.outcome)?;
-    print(rt, b"; reason ")?;
-    print_byte(rt, answer.reason)?;
-    print(rt, b"; place ")?;
-    print_byte(rt, answer.place)?;
-    print(rt, b"; costs ")?;
-    print_number(rt, answer.cost as u64)?;
-    print(rt, b",")?;
-    print_number(rt, answer.plan_cost as u64)
+    print!(rt;
+        "{}; reason {}; place {}",
+        answer.outcome, answer.reason, answer.place
+    )?;
+    print!(rt; "; costs {},{}", answer.cost, answer.plan_cost)
 }
 
 // The marked segment of an explanation, with its witness.
 fn print_segment(rt: &impl Print, answer: Explanation) -> io::Result<()> {
-    print(rt, b"; segment ")?;
-    print_number(rt, answer.segment_end as u64)?;
-    print(rt, b",")?;
-    print_byte(rt, answer.segment_length)?;
-    print(rt, b"; witness ")?;
-    print_byte(rt, answer.witness_length)?;
-    print(rt, b": ")?;
-    let witness = answer.witness;
-    print_moves(rt, &witness)
+    print!(rt;
+        "; segment {},{}",
+        answer.segment_end, answer.segment_length
+    )?;
+    print!(rt; "; witness {}: ", answer.witness_length)?;
+    print_moves(rt, &answer.witness)
 }
 
-// Why the proposal of a comma list is not the plan.
+// The answer to `x`: why the proposal is not the plan.
 fn print_explanation(
-    rt: &impl Print,
-    set: RuleSet,
-    reach: usize,
-    table: &[u8],
-    start: &[u8],
-    goal: &[u8],
-    moves: usize,
-    cost: u16,
-    limit: u32,
-    text: &[u8],
+    rt: &(impl Print + AllocGlobal),
+    standing: &Standing,
+    query: &Query,
 ) -> io::Result<()> {
-    let mut proposal = buffer();
-    let size = list_of(text, &mut proposal);
+    let proposal = list_of(rt.alloc(), query.last)?;
     let answer = explain::explain(
-        set,
-        reach,
-        table,
-        start,
-        goal,
-        moves,
-        cost,
-        limit,
-        &proposal[0..size],
+        standing.set,
+        query.reach,
+        &standing.table,
+        &query.start,
+        &query.goal,
+        query.max_moves,
+        query.max_cost,
+        query.step_limit,
+        &proposal,
     );
     print_reason(rt, answer)?;
     print_segment(rt, answer)
 }
 
-// The answer to `q`, `k` or `x` for a start and a goal; the text holds moves, cost, limit and the room or the proposal.
-// Gives the tally.
-fn print_found(
-    rt: &impl Print,
-    set: RuleSet,
-    reach: usize,
-    table: &[u8],
-    start: &[u8],
-    goal: &[u8],
-    text: &[u8],
-    plan: &mut [u8],
-    tally: Tally,
-    verb: u8,
-) -> io::Result<Tally> {
-    let moves = number_of(up_to(b' ', text));
-    let bounds = behind(b' ', text);
-    let cost = smaller(number_of(up_to(b' ', bounds)), 65535) as u16;
-    let limits = behind(b' ', bounds);
-    let limit = smaller(number_of(up_to(b' ', limits)), 4294967295) as u32;
-    let last = behind(b' ', limits);
-    if verb == b'x' {
-        print_explanation(rt, set, reach, table, start, goal, moves, cost, limit, last)?;
-        return Ok(tally);
-    }
-    let room = smaller(number_of(last), plan.len());
-    let part = &mut plan[0..room];
-    if verb == b'k' {
-        return print_tallied_search(
-            rt, set, reach, table, start, goal, moves, cost, limit, part, tally,
-        );
-    }
-    print_search(rt, set, reach, table, start, goal, moves, cost, limit, part)?;
-    Ok(tally)
-}
-
-// The answer to `q` or `k`, with this plan buffer, or to `x`; gives the tally.
-fn print_query(
-    rt: &impl Print,
-    set: RuleSet,
-    text: &[u8],
-    table: &[u8],
-    plan: &mut [u8],
-    tally: Tally,
-    verb: u8,
-) -> io::Result<Tally> {
-    let mut starts = buffer();
-    let mut goals = buffer();
-    let reach = number_of(up_to(b' ', text));
-    let states = behind(b' ', text);
-    let start = list_of(up_to(b' ', states), &mut starts);
-    let more = behind(b' ', states);
-    let goal = list_of(up_to(b' ', more), &mut goals);
-    let numbers = behind(b' ', more);
-    print_found(
-        rt,
-        set,
-        reach,
-        table,
-        &starts[0..start],
-        &goals[0..goal],
-        numbers,
-        plan,
-        tally,
-        verb,
-    )
-}
-
-// The answer to `q`: a plan buffer of its own, and the tally as it was.
-fn print_untallied(
-    rt: &impl Print,
-    set: RuleSet,
-    text: &[u8],
-    table: &[u8],
-    tally: Tally,
-) -> io::Result<Tally> {
-    let mut plan = buffer();
-    print_query(rt, set, text, table, &mut plan, tally, b'q')
-}
-
-// The tally of a comma list.
-fn tally_of(text: &[u8]) -> Tally {
-    let solved = number_of(up_to(b',', text)) as u64;
-    let second = behind(b',', text);
-    let unsolvable = number_of(up_to(b',', second)) as u64;
-    let third = behind(b',', second);
-    let limited = number_of(up_to(b',', third)) as u64;
-    let fourth = behind(b',', third);
-    let refused = number_of(up_to(b',', fourth)) as u64;
-    let steps = number_of(behind(b',', fourth)) as u64;
-    Tally {
-        solved,
-        unsolvable,
-        limited,
-        refused,
-        steps,
-    }
-}
-
-// The answer to `c`; gives the tally.
-fn print_set_tally(rt: &impl Print, text: &[u8]) -> io::Result<Tally> {
-    let tally = tally_of(text);
-    print(rt, b"tally ")?;
-    print_tally(rt, tally)?;
-    Ok(tally)
-}
-
-// The answer to `u`; gives the tally.
-fn print_updates(rt: &impl Print, tally: Tally, text: &[u8]) -> io::Result<Tally> {
-    let outcome = smaller(number_of(up_to(b' ', text)), 255) as u8;
-    let steps = smaller(number_of(behind(b' ', text)), 4294967295) as u32;
-    print(rt, b"by value ")?;
-    print_tally(rt, tally::tallied(tally, outcome, steps))?;
-    let next = updated(tally, outcome, steps);
-    print(rt, b"; by reference ")?;
-    print_tally(rt, next)?;
-    Ok(next)
+// The answer to `u`.
+fn print_updates(rt: &impl Print, standing: &mut Standing, text: &[u8]) -> io::Result<()> {
+    let (outcome, steps) = split_once(b' ', text);
+    let outcome = number_of(outcome).min(255) as u8;
+    let steps = number_of(steps).min(4294967295) as u32;
+    print!(rt; "by value ")?;
+    print_tally(rt, tally::tallied(standing.tally, outcome, steps))?;
+    tally::update(&mut standing.tally, outcome, steps);
+    print!(rt; "; by reference ")?;
+    print_tally(rt, standing.tally)
 }
 
 // The answer to `p`.
-fn print_part(rt: &impl Print, text: &[u8], plan: &[u8]) -> io::Result<()> {
-    let size = number_of(up_to(b' ', text));
-    let room = smaller(number_of(behind(b' ', text)), plan.len());
-    print(rt, b"part ")?;
-    print_moves(rt, answers::plan_part(&plan[0..room], size))
+fn print_part(rt: &impl Print, plan: &[u8], text: &[u8]) -> io::Result<()> {
+    let (length, room) = split_once(b' ', text);
+    let part = &plan[..number_of(room).min(plan.len())];
+    print!(rt; "part ")?;
+    print_moves(rt, answers::plan_part(part, number_of(length)))
 }
 
 // The set of a text, with its outcome printed.
 fn read_set(rt: &impl Print, text: &[u8]) -> io::Result<RuleSet> {
     let mut file = large_buffer();
     let size = decode(text, &mut file);
-    let reading = reader::read(&file[0..size]);
-    print_byte(rt, reading.outcome)?;
+    let reading = reader::read(&file[..size]);
+    print!(rt; "{}", reading.outcome)?;
     Ok(reading.set)
 }
 
 // The set with two of its numbers changed, and whether it is valid printed.
 fn changed_set(rt: &impl Print, set: RuleSet, text: &[u8]) -> io::Result<RuleSet> {
-    let positions = number_of(up_to(b',', text));
-    let count = number_of(behind(b',', text));
+    let (positions, count) = split_once(b',', text);
     let mut other = set;
-    other.positions = (positions % 256) as u8;
-    other.count = (count % 256) as u8;
+    other.positions = (number_of(positions) % 256) as u8;
+    other.count = (number_of(count) % 256) as u8;
     if validity::is_valid(other) {
-        print(rt, b"valid")?;
+        print!(rt; "valid")?;
     } else {
-        print(rt, b"not valid")?;
+        print!(rt; "not valid")?;
     }
     Ok(other)
 }
 
-// The set after a case: of `f` and `s` the one that they give.
-fn next_set(rt: &impl Print, set: RuleSet, verb: u8, text: &[u8]) -> io::Result<RuleSet> {
-    if verb == b'f' {
-        return read_set(rt, text);
-    }
-    if verb == b's' {
-        return changed_set(rt, set, text);
-    }
-    Ok(set)
-}
-
-// The size of the table that stands after a case: of `b` and `t` the one that they give.
-fn next_size(
-    rt: &impl Print,
-    set: RuleSet,
-    size: usize,
+// The answer to a case, by its letter.
+fn answer(
+    rt: &(impl Print + AllocGlobal),
+    standing: &mut Standing,
     verb: u8,
     text: &[u8],
-    table: &mut [u8],
-) -> io::Result<usize> {
-    if verb == b'b' {
-        return built(rt, set, text, table);
+) -> io::Result<()> {
+    match verb {
+        b'f' => standing.set = read_set(rt, text)?,
+        b's' => standing.set = changed_set(rt, standing.set, text)?,
+        b'b' => standing.table = built(rt, standing.set, text)?,
+        b't' => standing.table = made(rt, text)?,
+        b'c' => {
+            standing.tally = tally_of(text);
+            print!(rt; "tally ")?;
+            print_tally(rt, standing.tally)?;
+        }
+        b'u' => print_updates(rt, standing, text)?,
+        b'p' => print_part(rt, &standing.plan, text)?,
+        b'q' => print_search(rt, standing, &query_of(rt.alloc(), text)?)?,
+        b'k' => print_tallied_search(rt, standing, &query_of(rt.alloc(), text)?)?,
+        b'x' => print_explanation(rt, standing, &query_of(rt.alloc(), text)?)?,
+        _ => {}
     }
-    if verb == b't' {
-        return made(rt, text, table);
-    }
-    Ok(size)
-}
-
-// The tally after a case, by its letter; any other leaves it.
-fn next_tally(
-    rt: &impl Print,
-    set: RuleSet,
-    tally: Tally,
-    verb: u8,
-    text: &[u8],
-    table: &[u8],
-    plan: &mut [u8],
-) -> io::Result<Tally> {
-    if verb == b'c' {
-        return print_set_tally(rt, text);
-    }
-    if verb == b'u' {
-        return print_updates(rt, tally, text);
-    }
-    if verb == b'p' {
-        print_part(rt, text, plan)?;
-        return Ok(tally);
-    }
-    if verb == b'q' {
-        return print_untallied(rt, set, text, table, tally);
-    }
-    if verb == b'k' {
-        return print_query(rt, set, text, table, plan, tally, verb);
-    }
-    if verb == b'x' {
-        return print_query(rt, set, text, table, plan, tally, verb);
-    }
-    Ok(tally)
+    Ok(())
 }
 
 // The line, cut at 120 bytes.
 fn print_line(rt: &impl Print, line: &[u8]) -> io::Result<()> {
-    if line.len() <= 120 {
-        return print(rt, line);
-    }
-    print(rt, &line[0..120])?;
-    print(rt, b"..")
+    let (front, dots) = shown(line);
+    rt.write_all(front)?;
+    rt.write_all(dots)
 }
 
-// One case, or a heading, on a line of the input; gives what stands for the next line.
-fn run(
-    rt: &impl Print,
-    standing: Standing,
-    line: &[u8],
-    table: &mut [u8],
-    plan: &mut [u8],
-) -> io::Result<Standing> {
-    if line.len() < 2 {
-        return Ok(standing);
-    }
+// One case, or a heading, on a line of the input.
+fn run(rt: &(impl Print + AllocGlobal), standing: &mut Standing, line: &[u8]) -> io::Result<()> {
+    let [verb, _, text @ ..] = line else {
+        return Ok(());
+    };
     print_line(rt, line)?;
-    if line[0] == b'#' {
-        print(rt, b"\n")?;
-        return Ok(standing);
+    if *verb != b'#' {
+        print!(rt; ": ")?;
+        answer(rt, standing, *verb, text)?;
     }
-    print(rt, b": ")?;
-    let set = next_set(rt, standing.set, line[0], &line[2..])?;
-    let size = next_size(rt, set, standing.size, line[0], &line[2..], table)?;
-    let stands = &table[0..smaller(size, table.len())];
-    let tally = next_tally(rt, set, standing.tally, line[0], &line[2..], stands, plan)?;
-    print(rt, b"\n")?;
-    Ok(Standing { set, size, tally })
+    print!(rt; "\n")
 }
 
-// What stands before the first line: the empty set, no table, and a tally of 0 throughout.
-fn first_standing() -> Standing {
-    let empty = reader::read(b"");
-    let set = empty.set;
-    let tally = tally_of(b"");
-    Standing {
-        set,
-        size: 0,
-        tally,
-    }
-}
-
-// The cases of all lines.
-fn run_lines(rt: &impl Print, input: &[u8], table: &mut [u8], plan: &mut [u8]) -> io::Result<()> {
-    let mut standing = first_standing();
-    let mut from: usize = 0;
-    while from < input.len() {
-        let rest = &input[from..];
-        let size = find(b'\n', rest);
-        standing = run(rt, standing, &rest[0..size], table, plan)?;
-        from += size + 1;
+// The cases of all lines. Before the first stand the empty set, no table, a tally of 0 throughout and bytes of 170.
+fn run_lines(rt: &(impl Print + AllocGlobal), input: &[u8]) -> io::Result<()> {
+    let mut standing = Standing {
+        set: reader::read(b"").set,
+        table: Vec::new(rt.alloc()),
+        tally: tally_of(b""),
+        plan: vec![in rt.alloc(); 170; PLAN_SIZE]?,
+    };
+    for line in input.split(|b| *b == b'\n') {
+        run(rt, &mut standing, line)?;
     }
     Ok(())
 }
 
 fn main(rt: HostRuntime) -> io::Result<()> {
     let mut input = [0u8; 131072];
-    let mut table = large_buffer();
-    let mut plan = buffer();
-    fill_from(&mut plan, 0, 170);
     let n = read_full(&mut rt.stdin(), &mut input)?;
-    run_lines(&rt, &input[..n], &mut table, &mut plan)
+    run_lines(&rt, &input[..n])
 }
