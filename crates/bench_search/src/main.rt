@@ -5,38 +5,22 @@
 // the same search in Rust.
 #![tactic(auto)]
 
-ghost use Rattle.std.specs.Prelude.{◌≤◌, length};
+ghost use Rattle.std.specs.Prelude.{◌≤◌};
 
 use model_spec::{MAX_RULES, MOVE_LIMIT, PLACE_COUNT, RuleSet};
 use search_spec::{Answer, NO_MOVE};
 use standard_input::{large_buffer, read_full};
+use std::alloc::{AllocError, Global};
 use std::io;
 use tables::sequence_count;
 
-// A number at the start of a text, the byte that ends its digits (0 where the text does), and how many bytes it takes
-// with that one.
-#[derive(Clone, Copy)]
-struct Number {
-    value: u64,
-    end: u8,
-    size: usize,
-}
-
-// How many numbers a line at the start of a text has, and how many bytes it takes with the one that ends it.
-#[derive(Clone, Copy)]
-struct Line {
-    count: usize,
-    size: usize,
-}
-
-// What the first line gives, and how many bytes it takes.
+// What the first line gives.
 #[derive(Clone, Copy)]
 struct Bounds {
     reach: usize,
     max_moves: usize,
     max_cost: u16,
     step_limit: u32,
-    size: usize,
 }
 
 // A number with one digit more; of a long number the last digits count.
@@ -44,66 +28,46 @@ fn with_digit(value: u64, digit: u8) -> u64 {
     10 * (value % 1000000000000) + (digit % 16) as u64
 }
 
-fn leading_number(text: &[u8]) -> Number
-    ensures { result.size ≤ length text.now }
-{
-    let mut value: u64 = 0;
-    let mut i: usize = 0;
-    while i < text.len() {
-        let byte = text[i];
-        i += 1;
-        if byte < b'0' {
-            return Number {
-                value,
-                end: byte,
-                size: i,
-            };
-        }
-        value = with_digit(value, byte);
-    }
-    Number {
-        value,
-        end: 0,
-        size: i,
+// The number at the start of a text, the byte that ends its digits, and the text behind that byte.
+fn leading_number(text: &[u8]) -> (u64, Option<u8>, &[u8]) {
+    let size = text.iter().position(|b| *b < b'0').unwrap_or(text.len());
+    let value = text[..size]
+        .iter()
+        .fold(0, |value, digit| with_digit(value, *digit));
+    match &text[size..] {
+        [end, rest @ ..] => (value, Some(*end), rest),
+        rest => (value, None, rest),
     }
 }
 
-// Puts the numbers of a line into a buffer, as many as it has room for.
-fn leading_line(text: &[u8], numbers: &mut [u8]) -> Line
-    ensures { (result.count ≤ length numbers.old)
-        × (result.size ≤ length text.now) }
-{
-    let mut count: usize = 0;
-    let mut size: usize = 0;
-    while count < numbers.len() {
-        let number = leading_number(&text[size..]);
-        numbers[count] = (number.value % 256) as u8;
-        count += 1;
-        size += number.size;
-        if number.end != b',' {
-            return Line { count, size };
+// The numbers of a line, one for each position at most, and the text behind them.
+fn leading_line(alloc: Global, text: &[u8]) -> Result<(Vec<u8>, &[u8]), AllocError> {
+    let mut numbers = Vec::new(alloc);
+    let mut rest = text;
+    for _ in 0..PLACE_COUNT {
+        let (number, end, behind) = leading_number(rest);
+        numbers.push((number % 256) as u8)?;
+        rest = behind;
+        if end != Some(b',') {
+            break;
         }
     }
-    Line { count, size }
+    Ok((numbers, rest))
 }
 
-fn leading_bounds(text: &[u8]) -> Bounds
-    ensures { result.size ≤ length text.now }
-{
-    let reach = leading_number(text);
-    let first = reach.size;
-    let moves = leading_number(&text[first..]);
-    let second = first + moves.size;
-    let cost = leading_number(&text[second..]);
-    let third = second + cost.size;
-    let steps = leading_number(&text[third..]);
-    Bounds {
-        reach: reach.value as usize,
-        max_moves: moves.value as usize,
-        max_cost: (cost.value % 65536) as u16,
-        step_limit: (steps.value % 4294967296) as u32,
-        size: third + steps.size,
-    }
+// The bounds of the first line, and the text behind it.
+fn leading_bounds(text: &[u8]) -> (Bounds, &[u8]) {
+    let (reach, _, rest) = leading_number(text);
+    let (moves, _, rest) = leading_number(rest);
+    let (cost, _, rest) = leading_number(rest);
+    let (steps, _, rest) = leading_number(rest);
+    let bounds = Bounds {
+        reach: reach as usize,
+        max_moves: moves as usize,
+        max_cost: (cost % 65536) as u16,
+        step_limit: (steps % 4294967296) as u32,
+    };
+    (bounds, rest)
 }
 
 // How many entries the table of so many rules has for a reach up to 3; no rule file has more than 31 rules.
@@ -116,29 +80,17 @@ fn entries_of(count: u8, reach: usize) -> usize
     sequence_count(count, reach)
 }
 
-fn print(rt: &impl Print, label: &[u8], number: u64) -> io::Result<()> {
-    rt.write_all(label)?;
-    rt.println(number)
-}
-
 fn print_answer(rt: &impl Print, answer: Answer) -> io::Result<()> {
-    print(rt, b"outcome=", answer.outcome as u64)?;
-    print(rt, b"cost=", answer.cost as u64)?;
-    print(rt, b"length=", answer.length as u64)?;
-    print(rt, b"steps=", answer.steps as u64)
-}
-
-fn print_move(rt: &impl Print, number: u8) -> io::Result<()> {
-    print(rt, b"move=", number as u64)
+    println!(rt; "outcome={}", answer.outcome)?;
+    println!(rt; "cost={}", answer.cost)?;
+    println!(rt; "length={}", answer.length)?;
+    println!(rt; "steps={}", answer.steps)
 }
 
 // Prints the moves of a plan buffer, up to the first byte that is none.
 fn print_moves(rt: &impl Print, plan: &[u8]) -> io::Result<()> {
-    for i in 0..plan.len() {
-        if plan[i] == NO_MOVE {
-            return Ok(());
-        }
-        print_move(rt, plan[i])?;
+    for number in plan.iter().take_while(|number| **number != NO_MOVE) {
+        println!(rt; "move={number}")?;
     }
     Ok(())
 }
@@ -150,7 +102,7 @@ fn run(rt: &impl Print, set: RuleSet, bounds: Bounds, start: &[u8], goal: &[u8])
     let entries = entries_of(set.count, bounds.reach);
     let table = &mut space[0..2 * entries];
     let built = builder::build_table(set, bounds.reach, table);
-    print(rt, b"built=", built.outcome as u64)?;
+    println!(rt; "built={}", built.outcome)?;
     let answer = search::search(
         set,
         bounds.reach,
@@ -167,29 +119,14 @@ fn run(rt: &impl Print, set: RuleSet, bounds: Bounds, start: &[u8], goal: &[u8])
 }
 
 // Reads the three lines and the file.
-fn read(rt: &impl Print, input: &[u8]) -> io::Result<()> {
-    let mut start = [0u8; PLACE_COUNT];
-    let mut goal = [0u8; PLACE_COUNT];
-    let bounds = leading_bounds(input);
-    let after_bounds = bounds.size;
-    let lines = &input[after_bounds..];
-    let first = leading_line(lines, &mut start);
-    let positions = first.count;
-    let after_start = first.size;
-    let rest = &lines[after_start..];
-    let second = leading_line(rest, &mut goal);
-    let asked = second.count;
-    let after_goal = second.size;
-    let reading = reader::read(&rest[after_goal..]);
-    print(rt, b"read=", reading.outcome as u64)?;
+fn read(rt: &(impl Print + AllocGlobal), input: &[u8]) -> io::Result<()> {
+    let (bounds, rest) = leading_bounds(input);
+    let (start, rest) = leading_line(rt.alloc(), rest)?;
+    let (goal, file) = leading_line(rt.alloc(), rest)?;
+    let reading = reader::read(file);
+    println!(rt; "read={}", reading.outcome)?;
     if reading.outcome == 0 {
-        run(
-            rt,
-            reading.set,
-            bounds,
-            &start[0..positions],
-            &goal[0..asked],
-        )?;
+        run(rt, reading.set, bounds, &start, &goal)?;
     }
     Ok(())
 }
