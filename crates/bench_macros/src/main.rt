@@ -5,48 +5,32 @@
 // beside the same work in Rust.
 #![tactic(auto)]
 
-ghost use Rattle.std.specs.Prelude.{◌<◌, ◌≤◌, length};
+ghost use Rattle.std.specs.Prelude.{◌<◌, length};
 
 use composition::{empty, extended};
 use macros_spec::Vectors;
 use model_spec::{MAX_RULES, MOVE_LIMIT, PLACE_COUNT, RuleSet};
 use standard_input::{large_buffer, read_full};
+use std::alloc::{AllocError, Global};
 use std::io;
-use std::num::wrapping_add_u64;
-
-// How many numbers a line at the start of a text has, and how many bytes it takes with the one that ends it.
-#[derive(Clone, Copy)]
-struct Line {
-    count: usize,
-    size: usize,
-}
 
 // What is counted of the macros: those that some state admits, the sum of their entries, and the sum of that sum
 // after each entry, which tells the order.
-#[derive(Clone, Copy)]
+#[derive(Clone, Copy, Default)]
 struct Totals {
     admitted: u64,
     sum: u64,
     sums: u64,
 }
 
-fn wide(entry: u8) -> u64 {
-    entry as u64
-}
-
 // The totals with the entries of one vector.
 fn with_entries(totals: Totals, entries: [u8; PLACE_COUNT]) -> Totals {
-    let mut sum = totals.sum;
-    let mut sums = totals.sums;
-    for i in 0..16usize {
-        sum = wrapping_add_u64(sum, wide(entries[i]));
-        sums = wrapping_add_u64(sums, sum);
+    let mut counted = totals;
+    for entry in entries {
+        counted.sum = counted.sum.wrapping_add(entry as u64);
+        counted.sums = counted.sums.wrapping_add(counted.sum);
     }
-    Totals {
-        admitted: totals.admitted,
-        sum,
-        sums,
-    }
+    counted
 }
 
 // The totals with one macro.
@@ -55,10 +39,8 @@ fn with_macro(totals: Totals, vectors: Vectors) -> Totals {
         return totals;
     }
     let mut counted = totals;
-    counted.admitted = wrapping_add_u64(counted.admitted, 1);
-    let condition = vectors.condition;
-    let effect = vectors.effect;
-    with_entries(with_entries(counted, condition), effect)
+    counted.admitted = counted.admitted.wrapping_add(1);
+    with_entries(with_entries(counted, vectors.condition), vectors.effect)
 }
 
 // The place of the rule after the one at a place; after the last rule, the first.
@@ -67,13 +49,11 @@ fn next_place(count: u8, place: usize) -> usize
     ensures { result < 31 }
 {
     let next = place + 1;
-    if 31 <= next {
-        return 0;
+    if next < 31 && next < count as usize {
+        next
+    } else {
+        0
     }
-    if count as usize <= next {
-        return 0;
-    }
-    next
 }
 
 // The place of a pair's first rule, once the second has moved on: the next one where the second begins again.
@@ -82,9 +62,10 @@ fn next_first(count: u8, first: usize, second: usize) -> usize
     ensures { result < 31 }
 {
     if second == 0 {
-        return next_place(count, first);
+        next_place(count, first)
+    } else {
+        first
     }
-    first
 }
 
 // The macro of two rules.
@@ -93,23 +74,16 @@ fn pair(set: RuleSet, first: usize, second: usize) -> Vectors
 {
     let one = set.rules[first];
     let two = set.rules[second];
-    let start = empty(set);
-    let once = extended(start, one);
-    extended(once, two)
+    extended(extended(empty(set), one), two)
 }
 
 // A million pairs of rules, in their order, from the first again after the last.
 fn totals_of(set: RuleSet) -> Totals {
-    let mut totals = Totals {
-        admitted: 0,
-        sum: 0,
-        sums: 0,
-    };
+    let mut totals = Totals::default();
     let mut first: usize = 0;
     let mut second: usize = 0;
     for _ in 0..1000000u32 {
-        let vectors = pair(set, first, second);
-        totals = with_macro(totals, vectors);
+        totals = with_macro(totals, pair(set, first, second));
         second = next_place(set.count, second);
         first = next_first(set.count, first, second);
     }
@@ -121,10 +95,7 @@ fn totals_of(set: RuleSet) -> Totals {
 fn rule_place(number: u8) -> usize
     ensures { result < 31 }
 {
-    if number < 1 {
-        return 0;
-    }
-    if MAX_RULES < number {
+    if number == 0 || MAX_RULES < number {
         return 0;
     }
     (number - 1) as usize
@@ -136,10 +107,7 @@ fn next_turn(count: usize, place: usize) -> usize
     ensures { result < count }
 {
     let next = place + 1;
-    if count <= next {
-        return 0;
-    }
-    next
+    if next < count { next } else { 0 }
 }
 
 // The vectors of the sequence that begins at a place of the moves and goes round.
@@ -161,15 +129,10 @@ fn composed(set: RuleSet, moves: &[u8], first: usize) -> Vectors
 fn rotations_of(set: RuleSet, moves: &[u8]) -> Totals
     requires { 0 < length moves.now }
 {
-    let mut totals = Totals {
-        admitted: 0,
-        sum: 0,
-        sums: 0,
-    };
+    let mut totals = Totals::default();
     let mut first: usize = 0;
     for _ in 0..250000u32 {
-        let vectors = composed(set, moves, first);
-        totals = with_macro(totals, vectors);
+        totals = with_macro(totals, composed(set, moves, first));
         first = next_turn(moves.len(), first);
     }
     totals
@@ -183,86 +146,62 @@ fn totals_for(set: RuleSet, moves: &[u8]) -> Totals {
     rotations_of(set, moves)
 }
 
-// A number below 256 with one digit more; a comma leaves it as it is.
-fn with_byte(number: u8, byte: u8) -> u8 {
-    if byte == b',' {
-        return number;
-    }
-    let value = 10 * (number as u16) + (byte % 16) as u16;
-    (value % 256) as u8
+// The number of a text, below 256: what is above is left out.
+fn byte_of(text: &[u8]) -> u8 {
+    text.iter().fold(
+        0,
+        |number: u8, digit| number.wrapping_mul(10).wrapping_add(*digit % 16),
+    )
 }
 
-// Puts the numbers of a line into a buffer of zeros, as many as it has room for.
-fn leading_line(text: &[u8], numbers: &mut [u8]) -> Line
-    ensures { (result.count ≤ length numbers.old) × (result.size ≤ length text.now) }
-{
-    let mut last: usize = 0;
-    let mut i: usize = 0;
-    while last < numbers.len() {
-        if text.len() <= i {
-            return Line {
-                count: last + 1,
-                size: i,
-            };
-        }
-        let byte = text[i];
-        i += 1;
-        if byte == b'\n' {
-            return Line {
-                count: last + 1,
-                size: i,
-            };
-        }
-        numbers[last] = with_byte(numbers[last], byte);
-        if byte == b',' {
-            last += 1;
+// The number at the start of a line, the byte that ends its digits, and the text behind that byte.
+fn leading_number(text: &[u8]) -> (u8, Option<u8>, &[u8]) {
+    let size = text
+        .iter()
+        .position(|b| *b == b',' || *b == b'\n')
+        .unwrap_or(text.len());
+    let number = byte_of(&text[..size]);
+    match &text[size..] {
+        [end, rest @ ..] => (number, Some(*end), rest),
+        rest => (number, None, rest),
+    }
+}
+
+// The numbers of a line, at most 64, and the text behind them.
+fn leading_line(alloc: Global, text: &[u8]) -> Result<(Vec<u8>, &[u8]), AllocError> {
+    let mut numbers = Vec::new(alloc);
+    let mut rest = text;
+    for _ in 0..MOVE_LIMIT {
+        let (number, end, behind) = leading_number(rest);
+        numbers.push(number)?;
+        rest = behind;
+        if end != Some(b',') {
+            break;
         }
     }
-    Line {
-        count: last,
-        size: i,
-    }
+    Ok((numbers, rest))
 }
 
-// Whether a text begins with a digit, as a line of numbers does and no rule file.
-fn begins_with_digit(text: &[u8]) -> bool {
-    if text.len() == 0 {
-        return false;
+// The line of numbers before a rule file, and the file. Where the text begins with no digit, it is the file.
+fn list_before(alloc: Global, text: &[u8]) -> Result<(Vec<u8>, &[u8]), AllocError> {
+    match text {
+        [b'0'..=b'9', ..] => leading_line(alloc, text),
+        _ => Ok((Vec::new(alloc), text)),
     }
-    let byte = text[0];
-    b'0' <= byte && byte <= b'9'
-}
-
-// The line of numbers before a rule file; where there is none, it has no number and takes no byte.
-fn list_before(text: &[u8], numbers: &mut [u8]) -> Line
-    ensures { (result.count ≤ length numbers.old) × (result.size ≤ length text.now) }
-{
-    if begins_with_digit(text) {
-        return leading_line(text, numbers);
-    }
-    Line { count: 0, size: 0 }
-}
-
-fn print(rt: &impl Print, label: &[u8], number: u64) -> io::Result<()> {
-    rt.write_all(label)?;
-    rt.println(number)
 }
 
 // Reads the list, if there is one, and the file, and prints what is counted.
-fn run(rt: &impl Print, input: &[u8]) -> io::Result<()> {
-    let mut moves = [0u8; MOVE_LIMIT];
-    let line = list_before(input, &mut moves);
-    let count = line.count;
-    let size = line.size;
-    let reading = reader::read(&input[size..]);
-    print(rt, b"outcome=", reading.outcome as u64)?;
+fn run(rt: &(impl Print + AllocGlobal), input: &[u8]) -> io::Result<()> {
+    let (moves, file) = list_before(rt.alloc(), input)?;
+    let reading = reader::read(file);
+    println!(rt; "outcome={}", reading.outcome)?;
     if reading.outcome != 0 {
         return Ok(());
     }
-    let totals = totals_for(reading.set, &moves[0..count]);
-    print(rt, b"admitted=", totals.admitted)?;
-    print(rt, b"sum=", totals.sum)?;
-    print(rt, b"sums=", totals.sums)
+    let totals = totals_for(reading.set, &moves);
+    println!(rt; "admitted={}", totals.admitted)?;
+    println!(rt; "sum={}", totals.sum)?;
+    println!(rt; "sums={}", totals.sums)
 }
 
 fn main(rt: HostRuntime) -> io::Result<()> {
