@@ -8,6 +8,7 @@ ghost use Rattle.cases_laws.specs.How.Texts.{with_entry};
 pub fn put_byte(place: usize, value: usize, bytes: &mut [u8])
     ensures { bytes.new ≡ set bytes.old place (value % 256) }
 {
+    // by index: after a `get_mut` that gives none, no fact says that the bytes are as before
     if place < bytes.len() {
         bytes[place] = (value % 256) as u8;
     }

@@ -29,6 +29,7 @@ pub fn read_full<R: Read>(input: &mut R, buffer: &mut [u8]) -> io::Result<usize>
     ensures err { OnErr result (length buffer.new ≡ length buffer.old) }
     ensures end { IfOk result (λ n. n < length buffer.new → IsAtEnd (R.remaining input.new)) }
 {
+    // a loop by hand: `read_exact` fails where the input ends early, and `read_to_end` reads to the heap
     let mut count: usize = 0;
     while count < buffer.len() {
         let more = input.read(&mut buffer[count..])?;
