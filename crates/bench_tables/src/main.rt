@@ -4,26 +4,18 @@
 // `bench/run` times it beside the plain comparison of all macros in Rust.
 #![tactic(auto)]
 
-ghost use Rattle.std.specs.Prelude.{◌≤◌, length};
+ghost use Rattle.std.specs.Prelude.{◌≤◌};
 
 use macros_spec::Touched;
 use model_spec::{MAX_RULES, RuleSet};
 use standard_input::{large_buffer, read_full};
 use std::io;
-use std::num::wrapping_add_u64;
 use tables::{KEPT, entry_at, sequence_count};
 use unions_spec::TableAnswer;
 
-// A number at the start of a text, and how many bytes its digits take with the byte that ends them.
-#[derive(Clone, Copy)]
-struct Number {
-    value: u32,
-    size: usize,
-}
-
 // What is counted of a table: its marks, the sum of its entries, and the sum of that sum after each entry, which
 // tells the order.
-#[derive(Clone, Copy)]
+#[derive(Clone, Copy, Default)]
 struct Totals {
     marks: u64,
     sum: u64,
@@ -42,20 +34,16 @@ fn with_digit(value: u32, digit: u8) -> u32 {
     10 * (value % 100000) + (digit % 16) as u32
 }
 
-fn leading_number(text: &[u8]) -> Number
-    ensures { result.size ≤ length text.now }
-{
-    let mut value: u32 = 0;
-    let mut i: usize = 0;
-    while i < text.len() {
-        let byte = text[i];
-        i += 1;
-        if byte < b'0' {
-            return Number { value, size: i };
-        }
-        value = with_digit(value, byte);
+// The number at the start of a text, and the text behind the byte that ends its digits.
+fn leading_number(text: &[u8]) -> (u32, &[u8]) {
+    let size = text.iter().position(|b| *b < b'0').unwrap_or(text.len());
+    let value = text[..size]
+        .iter()
+        .fold(0, |value, digit| with_digit(value, *digit));
+    match &text[size..] {
+        [_, rest @ ..] => (value, rest),
+        rest => (value, rest),
     }
-    Number { value, size: i }
 }
 
 // How many entries the table of so many rules has for reach 3; no rule file has more than 31 rules.
@@ -70,103 +58,73 @@ fn entries_of(count: u8) -> usize
 
 // The totals with an entry.
 fn with_entry(totals: Totals, entry: usize) -> Totals {
-    let mut counted = totals;
-    if entry != KEPT {
-        counted.marks = wrapping_add_u64(counted.marks, 1);
+    let mark = if entry == KEPT { 0 } else { 1 };
+    let sum = totals.sum.wrapping_add(entry as u64);
+    Totals {
+        marks: totals.marks.wrapping_add(mark),
+        sum,
+        sums: totals.sums.wrapping_add(sum),
     }
-    counted.sum = wrapping_add_u64(counted.sum, entry as u64);
-    counted.sums = wrapping_add_u64(counted.sums, counted.sum);
-    counted
 }
 
 fn totals_of(table: &[u8]) -> Totals {
-    let mut totals = Totals {
-        marks: 0,
-        sum: 0,
-        sums: 0,
+    (0..table.len() / 2).fold(Totals::default(), |totals, i| {
+        with_entry(totals, entry_at(table, i))
+    })
+}
+
+// So many builds or checks.
+fn runs_of<F: FnMut() -> TableAnswer>(times: u32, mut step: F) -> Runs
+    requires { F.IsAlwaysCallable step }
+{
+    let mut runs = Runs {
+        passed: 0,
+        touched: Touched {
+            reads: 0,
+            writes: 0,
+        },
     };
-    for i in 0..table.len() / 2 {
-        totals = with_entry(totals, entry_at(table, i));
-    }
-    totals
-}
-
-// No run yet.
-fn no_runs() -> Runs {
-    let touched = Touched {
-        reads: 0,
-        writes: 0,
-    };
-    Runs { passed: 0, touched }
-}
-
-// The runs with one more.
-fn with_run(runs: Runs, answer: TableAnswer) -> Runs {
-    let mut passed = runs.passed;
-    if answer.outcome == 0 {
-        passed = wrapping_add_u64(passed, 1);
-    }
-    let touched = answer.touched;
-    Runs { passed, touched }
-}
-
-// Builds the table so many times.
-fn build(set: RuleSet, table: &mut [u8], times: u32) -> Runs {
-    let mut runs = no_runs();
     for _ in 0..times {
-        runs = with_run(runs, builder::build_table(set, 3, table));
+        let answer = step();
+        if answer.outcome == 0 {
+            runs.passed = runs.passed.wrapping_add(1);
+        }
+        runs.touched = answer.touched;
     }
     runs
-}
-
-// Checks the table so many times.
-fn check(set: RuleSet, table: &[u8], times: u32) -> Runs {
-    let mut runs = no_runs();
-    for _ in 0..times {
-        runs = with_run(runs, checker::check_table(set, 3, table));
-    }
-    runs
-}
-
-fn print(rt: &impl Print, label: &[u8], number: u64) -> io::Result<()> {
-    rt.write_all(label)?;
-    rt.println(number)
 }
 
 fn print_touched(rt: &impl Print, touched: Touched) -> io::Result<()> {
-    print(rt, b"reads=", touched.reads as u64)?;
-    print(rt, b"writes=", touched.writes as u64)
+    println!(rt; "reads={}", touched.reads)?;
+    println!(rt; "writes={}", touched.writes)
 }
 
 // Builds and checks the table of a rule set.
 fn run(rt: &impl Print, set: RuleSet, builds: u32, checks: u32) -> io::Result<()> {
     let mut space = [0u8; 61568];
     let entries = entries_of(set.count);
-    let table = &mut space[0..2 * entries];
-    let built = build(set, table, builds);
-    let checked = check(set, table, checks);
+    let table = &mut space[..2 * entries];
+    let built = runs_of(builds, || builder::build_table(set, 3, table));
+    let checked = runs_of(checks, || checker::check_table(set, 3, table));
     let totals = totals_of(table);
-    print(rt, b"entries=", entries as u64)?;
-    print(rt, b"marks=", totals.marks)?;
-    print(rt, b"sum=", totals.sum)?;
-    print(rt, b"sums=", totals.sums)?;
-    print(rt, b"built=", built.passed)?;
+    println!(rt; "entries={entries}")?;
+    println!(rt; "marks={}", totals.marks)?;
+    println!(rt; "sum={}", totals.sum)?;
+    println!(rt; "sums={}", totals.sums)?;
+    println!(rt; "built={}", built.passed)?;
     print_touched(rt, built.touched)?;
-    print(rt, b"accepted=", checked.passed)?;
+    println!(rt; "accepted={}", checked.passed)?;
     print_touched(rt, checked.touched)
 }
 
 // Reads the two numbers and the file.
 fn read(rt: &impl Print, input: &[u8]) -> io::Result<()> {
-    let builds = leading_number(input);
-    let after_first = builds.size;
-    let rest = &input[after_first..];
-    let checks = leading_number(rest);
-    let after_second = checks.size;
-    let reading = reader::read(&rest[after_second..]);
-    print(rt, b"outcome=", reading.outcome as u64)?;
+    let (builds, rest) = leading_number(input);
+    let (checks, file) = leading_number(rest);
+    let reading = reader::read(file);
+    println!(rt; "outcome={}", reading.outcome)?;
     if reading.outcome == 0 {
-        run(rt, reading.set, builds.value, checks.value)?;
+        run(rt, reading.set, builds, checks)?;
     }
     Ok(())
 }
