@@ -1,75 +1,79 @@
--- A word and the digits at a place of a text, byte by byte: the turns of the loops that read them.
+-- A word and the digits at the front of a text, as the library's tests give them.
 -- Assumes nothing.
-use Prim.Native.Nat.{ℕ, ◌+◌, ◌≤◌, ◌<◌}
-use mathlib.Core.Path.{◌≡◌, sym, ap}
-use mathlib.Core.Logic.{◌≢◌, ⊎_elim}
-use mathlib.Core.Bool.{true, false}
+use Prim.Native.Nat.{ℕ, suc, ◌+◌}
+use mathlib.Core.Path.{◌≡◌, refl, sym, ap, ◌∙◌}
+use mathlib.Core.Bool.{Bool, true, false, cond, ◌&&◌}
 use mathlib.Core.List.{List, [], ◌∷◌}
-use native.Mathlib.Numerals.{add-one}
 use native.Mathlib.Omega.{arith}
-use lib.ListN.{length, get_or, drop, drop_of_length-le}
-use lib.Seq.{drop-cons}
-use borrow.Author.Tests.{eq-eqb, ne_eqb}
-use Rattle.theory_spec.proofs.ListLaws.{passes?}
-use Rattle.theory_spec.proofs.TestLaws.{below?, within_iff}
-use Rattle.files_spec.specs.Reading.{parsed, refused, literal, is_digit, digits}
+use lib.Dec.{eqb}
+use lib.ListN.{length, take, drop}
+use lib.Pointwise.{pointwise}
+use borrow.Author.Tests.{eqb-true, eq-eqb}
+use denote.Ref.{Bor}
+use Rattle.std.specs.Prelude.{Option, Some, None, MatchOption}
+use Rattle.std.specs.Option.{ok_or}
+use Rattle.std.specs.List.{prefix_len}
+use Rattle.std.proofs.lemmas.List.Folds.{length-prefix_len}
+use Rattle.theory_spec.specs.Lists.{every}
+use Rattle.theory_spec.proofs.ListLaws.{and_join, same_test}
+use Rattle.refusals_spec.specs.declared.Refusal.TheVariants.{Form}
+use Rattle.files_spec.specs.Reading.{parsed, refused, Parsed, literal, is_digit, digits}
+use Rattle.reader_laws.specs.How.Found.{word_as}
 
--- ── A word, from its place i on, at the place n of a text ────────────────────────────────────────
+-- two numbers are compared either way round
+eqb_comm : (m n : ℕ) → eqb m n ≡ eqb n m
+eqb_comm m n =
+    same_test (eqb m n) (eqb n m) (λ e. eq-eqb n m (sym (eqb-true m n e))) (λ e. eq-eqb m n (sym (eqb-true n m e)))
 
-module _ (word text : List ℕ) (i n : ℕ) where
-  -- nothing is left of the word
-  pub word_end : length word ≤ i → literal (drop i word) (drop n text) ≡ parsed tt (drop n text)
-  unfolding literal
-  word_end h = rw (drop_of_length-le word {i = i} h)
+-- ── A word ───────────────────────────────────────────────────────────────────────────────────────
 
-  -- nothing is left of the text
-  pub word_cut : i < length word → length text ≤ n → literal (drop i word) (drop n text) ≡ refused 1
-  unfolding literal
-  word_cut h k = rw (drop-cons word i 0 h, drop_of_length-le text {i = n} k)
+-- the word stands at the front of the text, or it does not
+word_read : (word text : List ℕ)
+    → literal word text ≡ cond (pointwise eqb (take (length word) text) word) (parsed tt (drop (length word) text)) (refused 1)
+unfolding literal
+word_read [] text = refl
+word_read (w ∷ word) [] = refl
+word_read (w ∷ word) (c ∷ text) = rw (eqb_comm w c) (go (eqb c w) _ _ _ (word_read word text))
+  where
+    go : (t p : Bool) {X : Parsed (Unit {0})} (Y Z : Parsed (Unit {0})) → X ≡ cond p Y Z → cond t X Z ≡ cond (t && p) Y Z
+    go true p Y Z e = e
+    go false p Y Z e = refl
 
-  -- another byte stands there
-  pub word-other : i < length word → n < length text → get_or text n 0 ≢ get_or word i 0
-      → literal (drop i word) (drop n text) ≡ refused 1
-  unfolding literal
-  word-other h k d =
-      rw (drop-cons word i 0 h, drop-cons text n 0 k, ne_eqb (get_or word i 0) (get_or text n 0) (λ e. d (sym e)))
+-- so it is read where the library strips it off
+pub word_stripped : (word text : List ℕ) (stripped : Option (Bor (List ℕ)))
+    → MatchOption stripped (pointwise eqb (take (length word) text) word ≡ false)
+    (λ rest. (pointwise eqb (take (length word) text) word ≡ true) × (rest.now ≡ drop (length word) text)
+    × (length rest.now + length word ≡ length text))
+    → literal word text ≡ word_as (ok_or stripped Form)
+word_stripped word text (Some rest) h = word_read word text ∙ rw (h.0, h.1)
+word_stripped word text None h = word_read word text ∙ rw h
 
-  -- the byte stands there
-  pub word_more : i < length word → n < length text → get_or text n 0 ≡ get_or word i 0
-      → literal (drop i word) (drop n text) ≡ literal (drop (i + 1) word) (drop (n + 1) text)
-  unfolding literal
-  word_more h k e =
-      let same = eq-eqb (get_or word i 0) (get_or text n 0) (sym e) in
-      rw (add-one i, add-one n, drop-cons word i 0 h, drop-cons text n 0 k, same)
+-- ── The digits at the front of a text ────────────────────────────────────────────────────────────
 
--- ── The digits at the place n of a text ──────────────────────────────────────────────────────────
+-- they are the bytes before the first that is none
+pub digits_front : (text : List ℕ) → take (prefix_len is_digit text) text ≡ digits text
+unfolding digits
+digits_front [] = refl
+digits_front (b ∷ text) = go (is_digit b) (digits_front text)
+  where
+    go : (t : Bool) → take (prefix_len is_digit text) text ≡ digits text
+        → take (cond t (1 + prefix_len is_digit text) 0) (b ∷ text) ≡ cond t (b ∷ digits text) []
+    go true e =
+        let n : 1 + prefix_len is_digit text ≡ suc (prefix_len is_digit text) = omega arith in
+        rw n (ap (λ ds. b ∷ ds) e)
+    go false e = refl
 
-module _ (text : List ℕ) (n : ℕ) where
-  -- beyond the text there is none
-  pub digits_none : length text ≤ n → digits (drop n text) ≡ []
-  unfolding digits
-  digits_none h = rw (drop_of_length-le text {i = n} h)
+-- so many they are
+pub digits_count : (text : List ℕ) → length (digits text) ≡ prefix_len is_digit text
+digits_count text = ap length (sym (digits_front text)) ∙ length-prefix_len is_digit text
 
-  -- nor at a byte that is none
-  pub digits-other : n < length text → is_digit (get_or text n 0) ≡ false → digits (drop n text) ≡ []
-  unfolding digits
-  digits-other h t = rw (drop-cons text n 0 h, t)
-
-  -- a digit, and those after it
-  pub digits_more : n < length text → is_digit (get_or text n 0) ≡ true
-      → digits (drop n text) ≡ get_or text n 0 ∷ digits (drop (n + 1) text)
-  unfolding digits
-  digits_more h t = rw (add-one n, drop-cons text n 0 h, t)
-
-  -- where there is one, the byte there is one, and the first
-  pub digits_some : 0 < length (digits (drop n text))
-      → (n < length text) × (48 ≤ get_or text n 0) × (get_or text n 0 ≤ 57)
-      × (digits (drop n text) ≡ get_or text n 0 ∷ digits (drop (n + 1) text))
-  digits_some h =
-      ⊎_elim
-      (λ k.
-      ⊎_elim (λ t. let r = (within_iff 48 57 (get_or text n 0)).0 t in (k, r.0, r.1, digits_more k t))
-      (λ t. absurd (omega (arith, ap length (digits-other k t))))
-      (passes? (is_digit (get_or text n 0))))
-      (λ k. absurd (omega (arith, ap length (digits_none k))))
-      (below? n (length text))
+-- each is one
+pub digits_all : (text : List ℕ) → every is_digit (digits text) ≡ true
+unfolding digits
+digits_all [] = refl
+digits_all (b ∷ text) = go (is_digit b) refl (digits_all text)
+  where
+    go : (t : Bool) → is_digit b ≡ t → every is_digit (digits text) ≡ true
+        → every is_digit (cond t (b ∷ digits text) []) ≡ true
+    go true e r = and_join e r
+    go false e r = refl

@@ -1,18 +1,15 @@
 -- The turns of the loops that read a list into an array, element by element: the items of a line, the rules of a file.
 -- Assumes nothing.
 use mathlib.Core.Path.{◌≡◌, refl, sym, ap, ◌∙◌}
-use mathlib.Core.Logic.{◌≢◌}
 use mathlib.Core.List.{List, [], ◌∷◌, ◌++◌}
 use Prim.Native.Nat.{ℕ, zero, suc, ◌+◌, ◌-◌, ◌≤◌, ◌<◌}
 use native.Mathlib.Numerals.{add-one}
 use native.Mathlib.Omega.{arith}
-use lib.ListN.{length, get_or, take, drop, set, replicate, length-set, length-replicate, get_or-replicate}
+use lib.ListN.{length, get_or, take, set, replicate, length-set, length-replicate, get_or-replicate}
 use lib.Seq.{get_or-set_other, take-suc-set}
 use Rattle.theory_spec.specs.Lists.{padded}
-use Rattle.files_spec.specs.Reading.{Parsed, parsed, and_read, Item, ending_of, items_after, rule_lines, rules_after}
-use Rattle.reader_laws.specs.How.Found.{found}
+use Rattle.files_spec.specs.Reading.{Parsed, refused, parsed, and_read, Item, ending_of, items_after, rule_lines, rules_after}
 use Rattle.files_spec.proofs.PaddedLaws.{padded_iff}
-use Rattle.reader_laws.proofs.FoundLaws.{found-refused, found-parsed, parsed-found}
 
 -- an item is read after those before it, and told how many follow it
 abbrev pub ReadsItem : Type 0 → Type 0
@@ -43,23 +40,23 @@ rules_list positions sizes = record { none = λ before text. refl; next = λ n b
 abbrev pub made_up : {A : Type 0} → ℕ → A → Parsed (List A) → Parsed (List A)
 made_up size blank p = and_read p (λ items rest. parsed (padded size blank items) rest)
 
--- after i of count items: the places from i on are still blank, and what is left of the text decides the whole, X
+-- after i of count items: the places from i on are still blank, and the rest of the text decides the whole, X
 pub record SoFar
-    {A : Type 0} (more : ReadsMore A) (size : ℕ) (blank : A) (count : ℕ) (text : List ℕ) (X : Parsed (List A))
-    (entries : List A) (next i : ℕ) : Type 0 where
+    {A : Type 0} (more : ReadsMore A) (size : ℕ) (blank : A) (count : ℕ) (X : Parsed (List A))
+    (entries : List A) (rest : List ℕ) (i : ℕ) : Type 0 where
   pub below : i ≤ count
   pub fits : count ≤ size
   pub sized : length entries ≡ size
   pub beyond : (k : ℕ) → i ≤ k → k < size → get_or entries k blank ≡ blank
-  pub left : made_up size blank (more (count - i) (take i entries) (drop next text)) ≡ X
+  pub left : made_up size blank (more (count - i) (take i entries) rest) ≡ X
 
 module _
     {A : Type 0} {item : ReadsItem A} {more : ReadsMore A} (list : ReadsList item more)
-    {size : ℕ} {blank : A} {count : ℕ} {text : List ℕ} {X : Parsed (List A)} where
+    {size : ℕ} {blank : A} {count : ℕ} {X : Parsed (List A)} where
   -- before the first item
-  pub fill_start : (next : ℕ) → count ≤ size → made_up size blank (more count [] (drop next text)) ≡ X
-      → SoFar more size blank count text X (replicate size blank) next 0
-  fill_start next fits e = record {
+  pub fill_start : (rest : List ℕ) → count ≤ size → made_up size blank (more count [] rest) ≡ X
+      → SoFar more size blank count X (replicate size blank) rest 0
+  fill_start rest fits e = record {
     below = omega arith;
     fits = fits;
     sized = length-replicate size blank;
@@ -67,23 +64,23 @@ module _
     left = let n : count - 0 ≡ count = omega arith in rw n e;
   }
 
-  module _ {entries : List A} {next i : ℕ} (inv : SoFar more size blank count text X entries next i) where
+  module _ {entries : List A} {rest : List ℕ} {i : ℕ} (inv : SoFar more size blank count X entries rest i) where
     -- how it goes on with what the next item gives
     abbrev goes : Parsed A → Parsed (List A)
-    goes p = made_up size blank (and_read p (λ e rest. more (count - 1 - i) (take i entries ++ (e ∷ [])) rest))
+    goes p = made_up size blank (and_read p (λ e after. more (count - 1 - i) (take i entries ++ (e ∷ [])) after))
 
-    turn : i < count → goes (item (count - 1 - i) (take i entries) (drop next text)) ≡ X
+    turn : i < count → goes (item (count - 1 - i) (take i entries) rest) ≡ X
     turn h =
         let n : count - i ≡ suc (count - 1 - i) = omega arith in
-        let first = list.next (count - 1 - i) (take i entries) (drop next text) in
-        sym (ap (λ k. made_up size blank (more k (take i entries) (drop next text))) n ∙ ap (made_up size blank) first)
+        let first = list.next (count - 1 - i) (take i entries) rest in
+        sym (ap (λ k. made_up size blank (more k (take i entries) rest)) n ∙ ap (made_up size blank) first)
         ∙ inv.left
 
-    -- an item was found
-    pub fill_go : {o : ℕ} (e : A) (m : ℕ) → i < count
-        → item (count - 1 - i) (take i entries) (drop next text) ≡ found o e m text → o ≡ 0
-        → SoFar more size blank count text X (set entries i e) m (i + 1)
-    fill_go e m h r z = record {
+    -- an item was read
+    pub fill_go : (e : A) (after : List ℕ) → i < count
+        → item (count - 1 - i) (take i entries) rest ≡ parsed e after
+        → SoFar more size blank count X (set entries i e) after (i + 1)
+    fill_go e after h r = record {
       below = omega arith;
       fits = inv.fits;
       sized = length-set entries i e ∙ inv.sized;
@@ -92,22 +89,19 @@ module _
           let n : count - (i + 1) ≡ count - 1 - i = omega arith in
           let front : take (i + 1) (set entries i e) ≡ take i entries ++ (e ∷ []) =
           rw (add-one i) (take-suc-set entries i e (omega arith)) in
-          rw (n, front) (sym (ap goes (r ∙ found-parsed e m text z)) ∙ turn h);
+          rw (n, front) (sym (ap goes r) ∙ turn h);
     }
 
     -- an item was refused
-    pub fill_stop : {o : ℕ} (e : A) (m : ℕ) (w : List A) (k : ℕ) → i < count
-        → item (count - 1 - i) (take i entries) (drop next text) ≡ found o e m text → o ≢ 0
-        → X ≡ found o w k text
-    fill_stop e m w k h r z = sym (turn h) ∙ ap goes (r ∙ found-refused e m text z) ∙ sym (found-refused w k text z)
+    pub fill_stop : {k : ℕ} → i < count → item (count - 1 - i) (take i entries) rest ≡ refused k → X ≡ refused k
+    fill_stop h r = sym (turn h) ∙ ap goes r
 
-    -- all items were found
-    pub fill_end : count ≤ i → X ≡ found 0 entries next text
+    -- all items were read
+    pub fill_end : count ≤ i → X ≡ parsed entries rest
     fill_end h =
         let n : count - i ≡ 0 = omega arith in
         let whole = (padded_iff size blank entries blank i (omega arith)).0 (inv.sized, inv.beyond) in
-        parsed-found entries next text
-        (sym inv.left
-        ∙ ap (λ k. made_up size blank (more k (take i entries) (drop next text))) n
-        ∙ ap (made_up size blank) (list.none (take i entries) (drop next text))
-        ∙ ap (λ l. parsed l (drop next text)) (sym whole))
+        sym inv.left
+        ∙ ap (λ k. made_up size blank (more k (take i entries) rest)) n
+        ∙ ap (made_up size blank) (list.none (take i entries) rest)
+        ∙ ap (λ l. parsed l rest) (sym whole)

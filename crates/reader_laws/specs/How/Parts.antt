@@ -20,11 +20,11 @@ keyed_list key item n text =
     and_read (literal key text) (λ _ rest.
     and_read (items_after item n [] rest) (λ items rest. parsed (padded place_count 0 items) rest))
 
--- the items of a line that lists them, a `then` line by its condition
-unfoldable pub item_of : Line → ℕ → List ℕ → List ℕ → Item
-item_of Sizes positions sizes condition = size_item
-item_of Condition positions sizes condition = condition_item positions sizes
-item_of Effect positions sizes condition = effect_item positions sizes condition
+-- the items of a line that lists them
+unfoldable pub item_of : Line → ℕ → Item
+item_of Sizes positions = size_item
+item_of (Condition sizes) positions = condition_item positions sizes
+item_of (Effect sizes condition) positions = effect_item positions sizes condition
 
 -- an entry of an `if` line, judged for its place in the array that has it at i
 unfoldable pub condition_entry : ℕ → List ℕ → List ℕ → ℕ → ℕ → List ℕ → Parsed ℕ
