@@ -1,48 +1,40 @@
 -- `read_items::number_within` meets its contract: a number, judged by its two limits.
 use native.Mathlib.Omega.{arith}
+use mathlib.Core.Path.{refl}
 use lib.Dec.{leb}
 use borrow.Author.Tests.{lt-leb}
 use Rattle.theory_spec.specs.Lists.{within}
 use Rattle.theory_spec.proofs.TestLaws.{within_iff}
 use Rattle.model_spec.proofs.LoopLaws.{first_fails, second_fails}
 use Rattle.files_spec.specs.Reading.{number_within}
-use Rattle.reader_laws.proofs.FoundLaws.{refused-found, parsed-found, unless_failed, unless-passed, unless-refused}
+use Rattle.files_spec.proofs.ParserLaws.{refused-first, failed_test, unless_back}
+use Rattle.reader_laws.proofs.FoundLaws.{passed_on}
 use Rattle.read_items.proofs.number_within.Goals as goal
+use Rattle.read_items.proofs.number_within.Goals.{
+  then-value-from-via-then-value-from,
+  then-value-from-via-else-value-from+then-from-value,
+}
 
-pub returns-then-outcome-ne0 : goal.returns-then-outcome-ne0
+pub returns-in_err-value : goal.returns-in_err-value
 unfolding number_within
-returns-then-outcome-ne0 c =
-    let s = c.args in
-    let n = c.number-n in
-    refused-found _ _ s.text.now
-    (unless-refused _ _ s.text.now 2 (within s.least s.most) n.ensures c.if-outcome-ne0.true)
-    c.no_item.ensures c.if-outcome-ne0.true
+returns-in_err-value c = passed_on _ _ (refused-first _ c.in_err-value.ensures) c.from_residual.ensures.1
 
-pub returns-then-value-least : goal.returns-then-value-least
+pub returns-then-value-from : goal.returns-then-value-from
 unfolding number_within
-returns-then-value-least c =
+returns-then-value-from c =
     let s = c.args in
-    let n = c.number-n in
-    refused-found _ _ s.text.now
-    (unless_failed _ _ s.text.now 2 (within s.least s.most) n.ensures (omega arith)
-    (first_fails _ (lt-leb s.least n.result.value c.if-value-least.true)))
-    c.no_item-then-value-least.ensures (omega arith)
-
-pub returns-then-most-value : goal.returns-then-most-value
-unfolding number_within
-returns-then-most-value c =
-    let s = c.args in
-    let n = c.number-n in
-    refused-found _ _ s.text.now
-    (unless_failed _ _ s.text.now 2 (within s.least s.most) n.ensures (omega arith)
-    (second_fails (leb s.least n.result.value) (lt-leb n.result.value s.most c.if-most-value.true)))
-    c.no_item-then-most-value.ensures (omega arith)
+    let v = c.in_ok-value.value in
+    failed_test (within s.least s.most) c.in_ok-value.ensures
+    (elim c.then-value-from.branch [
+      | then-value-from-via-then-value-from w ↦ first_fails _ (lt-leb s.least v (omega arith))
+      | then-value-from-via-else-value-from+then-from-value w ↦
+          second_fails (leb s.least v) (lt-leb v s.most (omega arith))
+    ])
+    refl
 
 pub returns : goal.returns
 unfolding number_within
 returns c =
     let s = c.args in
-    let n = c.number-n in
-    parsed-found _ _ s.text.now
-    (unless-passed _ _ s.text.now 2 (within s.least s.most) n.ensures (omega arith)
-    ((within_iff s.least s.most n.result.value).1 (omega arith, omega arith)))
+    unless_back 2 (within s.least s.most) _ _ _ c.in_ok-value.ensures
+    ((within_iff s.least s.most c.in_ok-value.value).1 (omega arith, omega arith))
