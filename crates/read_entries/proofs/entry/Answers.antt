@@ -1,61 +1,48 @@
--- `read_entries::entry` meets its contract. The byte at the place decides between a variable and a constant;
+-- `read_entries::entry` meets its contract. The byte at the front decides between a variable and a constant;
 -- past the end of the text there is none, and a constant is read. Past the end of the sizes a size is 0.
-use Prim.Native.Nat.{ℕ, ◌+◌, ◌≤◌, min}
-use mathlib.Core.Path.{◌≡◌, ◌∙◌}
-use mathlib.Core.Logic.{◌≢◌}
-use mathlib.Core.List.{List}
-use native.Mathlib.Omega.{arith}
-use lib.ListN.{length, get_or, drop, get_or-eq_default}
-use lib.Seq.{get_or-drop, drop-drop}
-use borrow.Author.Tests.{eq-eqb, ne_eqb}
+use Prim.Native.Nat.{ℕ, min}
+use mathlib.Core.Path.{◌≡◌, refl, sym, ◌∙◌}
+use mathlib.Core.Bool.{Bool, true, false, ◌&&◌}
+use mathlib.Core.List.{List, [], ◌∷◌}
+use lib.Dec.{eqb}
+use lib.ListN.{get_or, take, drop}
+use lib.Pointwise.{pointwise}
+use Rattle.std.proofs.Common.{rules}
 use Rattle.files_spec.specs.File.{variable_letter}
 use Rattle.files_spec.specs.Reading.{variable, constant, entry}
 use Rattle.read_entries.proofs.entry.Goals as goal
-use Rattle.read_entries.proofs.entry.Goals.{then-at-text+else-text-at-eq120, else-at-text}
 
-module _ (positions : ℕ) (sizes : List ℕ) (i ending : ℕ) (text : List ℕ) (at : ℕ) where
-  -- the byte at a place of the text
-  first : get_or (drop at text) 0 0 ≡ get_or text at 0
-  first = let z : at + 0 ≡ at = omega arith in rw (get_or-drop at text 0 0, z)
+and_true : (b : Bool) → (b && true) ≡ b
+and_true true = refl
+and_true false = refl
 
+-- the letter stands at the front or does not
+front : (text : List ℕ) → eqb (get_or text 0 0) variable_letter ≡ pointwise eqb (take 1 text) (variable_letter ∷ [])
+front [] = refl
+front (b ∷ text) = sym (and_true (eqb b variable_letter))
+
+module _ (positions : ℕ) (sizes : List ℕ) (i ending : ℕ) (text : List ℕ) where
   -- at the letter a variable is read, after it
-  lettered : get_or text at 0 ≡ variable_letter
-      → entry positions sizes i ending (drop at text) ≡ variable positions ending (drop (at + 1) text)
+  lettered : pointwise eqb (take 1 text) (variable_letter ∷ []) ≡ true
+      → entry positions sizes i ending text ≡ variable positions ending (drop 1 text)
   unfolding entry
-  lettered e = rw (first, eq-eqb (get_or text at 0) variable_letter e, drop-drop 1 at text)
+  lettered e = rw (front text ∙ e)
 
   -- elsewhere a constant
-  unlettered : get_or text at 0 ≢ variable_letter
-      → entry positions sizes i ending (drop at text) ≡ constant (get_or sizes i 0) ending (drop at text)
+  unlettered : pointwise eqb (take 1 text) (variable_letter ∷ []) ≡ false
+      → entry positions sizes i ending text ≡ constant (get_or sizes i 0) ending text
   unfolding entry
-  unlettered d = rw (first, ne_eqb (get_or text at 0) variable_letter d)
+  unlettered e = rw (front text ∙ e)
 
--- past the end there is no letter
-outside : (text : List ℕ) (at : ℕ) → length text ≤ at → get_or text at 0 ≢ variable_letter
-outside text at h e = omega (arith, get_or-eq_default text 0 {n = at} h)
-
-pub returns-then-text-at-eq120 : goal.returns-then-text-at-eq120
-returns-then-text-at-eq120 c =
+pub returns-in-Some : goal.returns-in-Some
+returns-in-Some c =
     let s = c.args in
-    lettered (min s.positions 16) s.sizes.now s.i s.ending s.text.now s.at c.if-text-at-eq120.true
-    ∙ c.variable.ensures
-
-pub returns-then-i-lt-PLACE_COUNT : goal.returns-then-i-lt-PLACE_COUNT
-returns-then-i-lt-PLACE_COUNT c =
-    let s = c.args in
-    unlettered (min s.positions 16) s.sizes.now s.i s.ending s.text.now s.at
-    (elim c.if-at-text.branch [
-      | then-at-text+else-text-at-eq120 w ↦ w.if-text-at-eq120.false
-      | else-at-text w ↦ outside s.text.now s.at w.if-at-text.false
-    ])
-    ∙ c.constant.ensures
+    let h = c.in-Some.ensures.cases in
+    lettered (min s.positions 16) s.sizes.now s.i s.ending s.text.now h.0 ∙ rw (sym h.1) c.variable.ensures
 
 pub returns : goal.returns
 returns c =
     let s = c.args in
-    unlettered (min s.positions 16) s.sizes.now s.i s.ending s.text.now s.at
-    (elim c.if-at-text.branch [
-      | then-at-text+else-text-at-eq120 w ↦ w.if-text-at-eq120.false
-      | else-at-text w ↦ outside s.text.now s.at w.if-at-text.false
-    ])
-    ∙ rw (get_or-eq_default s.sizes.now 0 {n = s.i} (omega arith)) c.constant-2.ensures
+    let size : c.unwrap_or.result ≡ get_or s.sizes.now s.i 0 = search rules in
+    unlettered (min s.positions 16) s.sizes.now s.i s.ending s.text.now c.in_default.ensures.cases
+    ∙ rw (sym size) c.constant.ensures
