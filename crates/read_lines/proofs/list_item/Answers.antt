@@ -18,7 +18,7 @@ unfolding item_of
 returns-in-Condition c =
     let a = c.args in
     rw c.in-Condition.is
-    (condition_at a.positions a.sizes.now a.before a.i _ _ c.requires.0 (search rules)
+    (condition_at a.positions c.in-Condition.sizes a.before a.i _ _ c.requires.0 (search rules)
     ∙ c.condition_item.ensures)
 
 pub returns-in-Effect : goal.returns-in-Effect
@@ -26,6 +26,6 @@ unfolding item_of
 returns-in-Effect c =
     let a = c.args in
     rw c.in-Effect.is
-    (effect_at a.positions a.sizes.now a.condition.now (take a.i a.before) _ _ c.requires.0
+    (effect_at a.positions c.in-Effect.sizes c.in-Effect.condition (take a.i a.before) _ _ c.requires.0
     (length-take-le a.i a.before (omega arith))
     ∙ c.effect_item.ensures)

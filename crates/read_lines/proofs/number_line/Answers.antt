@@ -1,13 +1,13 @@
 -- `read_lines::number_line` meets its contract: the key, and then the number.
-use mathlib.Core.Path.{◌∙◌}
+use Rattle.files_spec.proofs.ParserLaws.{refused-first, then_back}
 use Rattle.reader_laws.specs.How.Parts.{keyed_number}
-use Rattle.reader_laws.proofs.FoundLaws.{then-refused, then-parsed}
+use Rattle.reader_laws.proofs.FoundLaws.{passed_on}
 use Rattle.read_lines.proofs.number_line.Goals as goal
 
-pub returns-then-outcome-ne0 : goal.returns-then-outcome-ne0
+pub returns-in_err-word : goal.returns-in_err-word
 unfolding keyed_number
-returns-then-outcome-ne0 c = then-refused _ _ _ _ _ _ c.word-start.ensures c.if-outcome-ne0.true
+returns-in_err-word c = passed_on _ _ (refused-first _ c.in_err-word.ensures) c.from_residual.ensures.1
 
 pub returns : goal.returns
 unfolding keyed_number
-returns c = then-parsed _ _ _ _ c.word-start.ensures c.if-outcome-ne0.false ∙ c.number_within.ensures
+returns c = then_back _ c.in_ok-word.ensures c.number_within.ensures
