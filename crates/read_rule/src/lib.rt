@@ -1,73 +1,32 @@
-// The lines of a rule, read at a place of the text: its cost, its condition and its effect.
+// The lines of a rule, read at the front of a text: its cost, its condition and its effect.
 #![tactic(auto)]
 
-ghost use Rattle.std.specs.Prelude.{◌≡◌, min, drop};
+ghost use Rattle.std.specs.Prelude.{◌≡◌, min};
 ghost use Rattle.model_spec.specs.Limits.{max_positions};
 ghost use Rattle.files_spec.specs.Reading.{rule_lines};
-ghost use Rattle.reader_laws.specs.How.Found.{found};
+ghost use Rattle.reader_laws.specs.How.Found.{read_as};
 
-use blanks::blank_rule;
 use model_spec::{MAX_RULE_COST, PLACE_COUNT, Rule};
 use read_lines::{list_line, number_line};
-use reader_laws::{FoundRule, Line};
-
-// A refusal in the place of a rule.
-fn no_rule(outcome: u8) -> FoundRule
-    ensures { result.outcome ≡ outcome }
-{
-    FoundRule {
-        outcome,
-        rule: blank_rule(),
-        next: 0,
-    }
-}
+use reader_laws::Line;
+use refusals_spec::Refusal;
 
 // The lines of a rule over at most sixteen positions.
-pub fn rule_lines(text: &[u8], at: usize, positions: u8, sizes: &[u8; PLACE_COUNT]) -> FoundRule
-    ensures { rule_lines (min positions max_positions) sizes.now (drop at text.now)
-        ≡ found result.outcome result.rule result.next text.now }
+pub fn rule_lines(
+    text: &[u8],
+    positions: u8,
+    sizes: [u8; PLACE_COUNT],
+) -> Result<(Rule, &[u8]), Refusal>
+    ensures { rule_lines (min positions max_positions) sizes text.now ≡ read_as result }
 {
-    let cost = number_line(text, at, b"cost=", 0, MAX_RULE_COST);
-    let first = cost.outcome;
-    if first != 0 {
-        return no_rule(first);
-    }
-    let condition = list_line(
-        text,
-        cost.next,
-        b"if=",
-        Line::Condition,
-        positions,
-        sizes,
-        sizes,
-    );
-    let second = condition.outcome;
-    if second != 0 {
-        return no_rule(second);
-    }
-    let entries = condition.entries;
-    let effect = list_line(
-        text,
-        condition.next,
-        b"then=",
-        Line::Effect,
-        positions,
-        sizes,
-        &entries,
-    );
-    let third = effect.outcome;
-    if third != 0 {
-        return no_rule(third);
-    }
-    let result = effect.entries;
+    let (cost, rest) = number_line(text, b"cost=", 0, MAX_RULE_COST)?;
+    let (condition, rest) = list_line(rest, b"if=", Line::Condition { sizes }, positions)?;
+    let line = Line::Effect { sizes, condition };
+    let (effect, rest) = list_line(rest, b"then=", line, positions)?;
     let rule = Rule {
-        cost: cost.value,
-        condition: entries,
-        effect: result,
+        cost,
+        condition,
+        effect,
     };
-    FoundRule {
-        outcome: 0,
-        rule,
-        next: effect.next,
-    }
+    Ok((rule, rest))
 }
