@@ -2,35 +2,31 @@
 #![tactic(auto)]
 
 ghost use Rattle.std.specs.Prelude.{◌≡◌};
-ghost use Rattle.files_spec.specs.Reading.{file_lines, reading};
+ghost use Rattle.files_spec.specs.Reading.{reading};
 ghost use Rattle.files_spec.specs.Meaning.{ReadMeaning};
-ghost use Rattle.reader_laws.specs.How.Found.{found};
+ghost use Rattle.reader_laws.specs.How.Found.{reading_as};
 
 use blanks::empty_set;
 use files_spec::Reading;
+use model_spec::RuleSet;
 use read_file::file_lines;
-use reader_laws::FoundSet;
+use refusals::number_of;
+use refusals_spec::Refusal;
+use validity::is_valid;
 
-// The outcome of a text, by what reading its lines gave: a line's fault, then bytes left over, then duplicates.
-fn outcome_of(text: &[u8], file: FoundSet) -> u8
-    requires { file_lines text.now ≡ found file.outcome file.set file.next text.now }
-    ensures { result ≡ (reading text.now).outcome }
+// The set of a rule file, or its first fault: a line's, then bytes left over, then duplicates.
+fn set_of(text: &[u8]) -> Result<RuleSet, Refusal>
+    ensures { reading text.now ≡ reading_as result }
 {
-    let fault = file.outcome;
-    let next = file.next;
-    let found = file.set;
-    if fault != 0 {
-        return fault;
+    let (set, rest) = file_lines(text)?;
+    if !rest.is_empty() {
+        return Err(Refusal::Form);
     }
     // the lines have no fault, so only duplicates can make the set invalid
-    let valid = validity::is_valid(found);
-    if next < text.len() {
-        return 1;
+    if !is_valid(set) {
+        return Err(Refusal::Duplicates);
     }
-    if !valid {
-        return 4;
-    }
-    0
+    Ok(set)
 }
 
 // Reads a rule file: its set, or the first fault's number and the empty set.
@@ -38,15 +34,11 @@ pub fn read(text: &[u8]) -> Reading
     ensures { (result ≡ reading text.now)
         × ReadMeaning text.now result }
 {
-    let file = file_lines(text);
-    let set = file.set;
-    let empty = empty_set();
-    let outcome = outcome_of(text, file);
-    if outcome != 0 {
-        return Reading {
-            outcome,
-            set: empty,
-        };
+    match set_of(text) {
+        Ok(set) => Reading { outcome: 0, set },
+        Err(refusal) => Reading {
+            outcome: number_of(refusal),
+            set: empty_set(),
+        },
     }
-    Reading { outcome: 0, set }
 }
