@@ -10,6 +10,7 @@ pub mod DistinctLaws
 pub mod EmptyLaws
 pub mod EquatedLaws
 pub mod ExtensionLaws
+pub mod FoldLaws
 pub mod FormLaws
 pub mod ChangeLaws
 pub mod SequenceTouchLaws

@@ -57,6 +57,12 @@ module _ (p : ℕ → Bool) (m k : ℕ) (so_far : Filled p m k) (h : k < 16) whe
   put_or_not true e added a = left_out e (bit_or m added) (ap (bit_or m) a ∙ or_zero_r m)
   put_or_not false e added a = put_in e (bit_or m added) (ap (bit_or m) (a ∙ sym (shifted_own 16 k h)))
 
+  -- or either, by a test
+  pub put_if : (test : Bool) → p k ≡ test → (next : ℕ) → next ≡ cond test (bit_or m ((1 * 2 ^ k) % 2 ^ 16)) m
+      → Filled p next (k + 1)
+  put_if true e next n = put_in e next n
+  put_if false e next n = left_out e next n
+
 -- after the last place
 pub filled : (p : ℕ → Bool) (m k : ℕ) → Filled p m k → 16 ≤ k → m ≡ set_of p 16
 filled p m k w h =

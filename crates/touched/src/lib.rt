@@ -31,14 +31,7 @@ fn named_by(entry: u8, place: usize) -> u16
 fn named_elsewhere(line: &[u8; PLACE_COUNT]) -> u16
     ensures { result ≡ set_of (named_elsewhere line.now) place_count }
 {
-    let entries: &[u8] = line;
-    let mut named: u16 = 0;
-    let mut k: usize = 0;
-    while k < PLACE_COUNT {
-        named = named | named_by(entries[k], k);
-        k += 1;
-    }
-    named
+    (0..PLACE_COUNT).fold(0, |named, k| named | named_by(line[k], k))
 }
 
 // The position of a place, as a set, if the entry there is not its own variable; else none.
@@ -60,14 +53,15 @@ fn asked_at(entry: u8, place: usize) -> u16
 fn asked(condition: &[u8; PLACE_COUNT]) -> u16
     ensures { result ≡ set_of (λ i. not (names (get_or condition.now i 0) i)) place_count }
 {
-    let entries: &[u8] = condition;
-    let mut found: u16 = 0;
-    let mut k: usize = 0;
-    while k < PLACE_COUNT {
-        found = found | asked_at(entries[k], k);
-        k += 1;
-    }
-    found
+    (0..PLACE_COUNT).fold(0, |found, k| found | asked_at(condition[k], k))
+}
+
+// The position of a place, as a set, if the two entries there differ; else none.
+fn changed_at(first: u8, last: u8, place: usize) -> u16
+    requires { place < place_count }
+    ensures { result ≡ cond (eqb first last) 0 (2 ^ place) }
+{
+    if first == last { 0 } else { 1 << place }
 }
 
 // The positions whose two entries differ.
@@ -76,17 +70,10 @@ fn changed(condition: &[u8; PLACE_COUNT], effect: &[u8; PLACE_COUNT]) -> u16
         let last = effect.now in
         result ≡ set_of (λ i. not (eqb (get_or first i 0) (get_or last i 0))) place_count }
 {
-    let first: &[u8] = condition;
-    let last: &[u8] = effect;
-    let mut differ: u16 = 0;
-    let mut k: usize = 0;
-    while k < PLACE_COUNT {
-        if first[k] != last[k] {
-            differ = differ | 1u16 << k;
-        }
-        k += 1;
-    }
-    differ
+    (0..PLACE_COUNT).fold(
+        0,
+        |differ, k| differ | changed_at(condition[k], effect[k], k),
+    )
 }
 
 // What vectors read and write among the positions of `wide`; nothing where no state admits the sequence.
@@ -99,11 +86,9 @@ pub fn touched(wide: u16, vectors: Vectors) -> Touched
             writes: 0,
         };
     }
-    let condition = vectors.condition;
-    let effect = vectors.effect;
-    let named = named_elsewhere(&condition) | named_elsewhere(&effect);
-    let read = asked(&condition) | named;
-    let written = changed(&condition, &effect);
+    let named = named_elsewhere(&vectors.condition) | named_elsewhere(&vectors.effect);
+    let read = asked(&vectors.condition) | named;
+    let written = changed(&vectors.condition, &vectors.effect);
     Touched {
         reads: wide & read,
         writes: wide & written,

@@ -11,15 +11,8 @@ use placement::width_at;
 pub fn wide_positions(set: RuleSet) -> u16
     ensures { result ≡ wide_positions set }
 {
-    let positions = set.positions;
-    let sizes = set.sizes;
-    let mut wide: u16 = 0;
-    let mut k: usize = 0;
-    while k < PLACE_COUNT {
-        if 1 < width_at(positions, &sizes, k) {
-            wide = wide | 1u16 << k;
-        }
-        k += 1;
-    }
-    wide
+    (0..PLACE_COUNT).fold(0, |wide, k| {
+        let width = width_at(set.positions, &set.sizes, k);
+        if 1 < width { wide | 1 << k } else { wide }
+    })
 }

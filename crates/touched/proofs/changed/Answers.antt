@@ -1,25 +1,25 @@
--- `touched::changed` meets its contract. The invariant: the places before k whose entries differ.
-use mathlib.Core.Path.{ap}
-use mathlib.Core.Bool.{not}
+-- `touched::changed` meets its contract: each call of its closure puts in a place whose entries differ.
+use mathlib.Core.Path.{◌≡◌, refl, sym, subst}
+use mathlib.Core.Bool.{cond, not}
+use Prim.Native.Nat.{ℕ, ◌+◌, ◌^◌}
 use native.Mathlib.Omega.{arith}
-use borrow.Author.Tests.{eq-eqb, ne_eqb}
+use lib.Dec.{eqb}
+use lib.ListN.{get_or}
 use borrow.Author.Rules.{rules}
+use Rattle.std.specs.Prelude.{bit_or}
 use Rattle.theory_spec.proofs.SetLaws.{filled_none}
-use Rattle.macros_spec.proofs.TouchedLoopLaws.{put_in, left_out, filled}
+use Rattle.macros_spec.proofs.FoldLaws.{folded}
+use Rattle.macros_spec.proofs.TouchedLoopLaws.{Filled, put_or_not, filled}
 use Rattle.touched.proofs.changed.Goals as goal
-use Rattle.touched.proofs.changed.Goals.{then-first-k, else-first-k}
-
-pub loop-k-init : goal.loop-k-init
-loop-k-init c = (search rules, search rules, filled_none _)
-
-pub loop-k-preserved : goal.loop-k-preserved
-loop-k-preserved c =
-    let l = c.loop-k in
-    let h = c.loop-k-test.true in
-    elim c.if-first-k.branch [
-      | then-first-k w ↦ put_in _ l.differ l.k l.invariant h (ap not (ne_eqb _ _ w.if-first-k.true)) _ w.differ-is
-      | else-first-k w ↦ left_out _ l.differ l.k l.invariant h (ap not (eq-eqb _ _ w.if-first-k.false)) _ w.differ-is
-    ]
 
 pub returns : goal.returns
-returns c = filled _ _ _ c.loop-k.invariant (omega arith)
+returns c =
+    let first = c.args.condition.now in
+    let last = c.args.effect.now in
+    let agree = λ (k : ℕ). eqb (get_or first k 0) (get_or last k 0) in
+    let test = λ (k : ℕ). not (agree k) in
+    filled test _ 16 (folded _ _ 16 (Filled test) (λ a k b d call. search rules)
+    (λ a k b d h so_far call.
+    let same : b ≡ bit_or a (cond (agree k) 0 (2 ^ k)) = search rules in
+    subst (λ m. Filled test m (k + 1)) (sym same) (put_or_not test a k so_far h (agree k) refl _ refl))
+    _ _ _ (search rules) (search rules, search rules, filled_none _) c.fold.ensures.ran) (omega arith)
