@@ -1,10 +1,12 @@
 // Composition: the vectors of a sequence, rule after rule. Document 01 asks for entry arrays of sixteen that go in and
 // come back by value, without a lent buffer; so `followed` does by value what `states`' `after` does on arrays that
 // are lent. Both vectors travel in one struct that is changed in place: document 02 allows one copy of the effect for
-// each rule, and none of the condition.
+// each rule, and none of the condition. The struct's mark `admitted` stays: the theorem ExtendedMeaning speaks of it.
+// The loops over places stay too: with an array's `map` the macros of `bench/run` took 1.7 to 4.9 times as long, and
+// with `from_fn` for the empty sequence those of topspin 4 to 6 in 100 longer.
 #![tactic(auto)]
 
-ghost use Rattle.std.specs.Prelude.{◌≡◌, true, not, cond, min, max, ◌+◌, ◌<◌, ltb, eqb};
+ghost use Rattle.std.specs.Prelude.{◌≡◌, true, not, cond, ◌+◌, ◌<◌, ltb, eqb};
 ghost use Rattle.std.proofs.Math.Option.{some, none};
 ghost use Rattle.model_spec.specs.Limits.{place_count, first_variable};
 ghost use Rattle.model_spec.specs.States.{is_constant, values_of};
@@ -15,20 +17,6 @@ ghost use Rattle.macros_spec.specs.VectorMeaning.{EmptyMeaning, ExtendedMeaning}
 
 use macros_spec::Vectors;
 use model_spec::{FIRST_VARIABLE, MAX_POSITIONS, PLACE_COUNT, Rule, RuleSet};
-
-// The larger of two entries.
-fn larger(x: u8, y: u8) -> u8
-    ensures { result ≡ max x y }
-{
-    if x < y { y } else { x }
-}
-
-// The smaller of two entries.
-fn smaller(x: u8, y: u8) -> u8
-    ensures { result ≡ min x y }
-{
-    if x < y { x } else { y }
-}
 
 // What an entry stands for, where `held` stands at a variable's place.
 fn stands_for(entry: u8, held: u8) -> u8
@@ -69,11 +57,9 @@ fn replaced(from: u8, to: u8, mut sequence: Vectors) -> Vectors
         × (result.condition ≡ replaced from to sequence.condition)
         × (result.effect ≡ replaced from to sequence.effect) }
 {
-    let mut i: usize = 0;
-    while i < PLACE_COUNT {
+    for i in 0..PLACE_COUNT {
         sequence.condition[i] = exchanged(from, to, sequence.condition[i]);
         sequence.effect[i] = exchanged(from, to, sequence.effect[i]);
-        i += 1;
     }
     sequence
 }
@@ -85,23 +71,21 @@ fn unified(mut sequence: Vectors, asked: [u8; PLACE_COUNT]) -> Vectors
     ensures { (let lines : Lines = record { condition = sequence.condition; effect = sequence.effect } in
         result ≡ as_vectors (unified asked 0 lines)) }
 {
-    let mut i: usize = 0;
-    while i < PLACE_COUNT {
+    for i in 0..PLACE_COUNT {
         let entry = asked[i];
         if asks(entry, i) {
             let place = (entry % MAX_POSITIONS) as usize;
             let have = sequence.effect[i];
             let want = stands_for(entry, sequence.effect[place]);
             if have != want {
-                let from = larger(have, want);
-                let to = smaller(have, want);
+                let from = have.max(want);
+                let to = have.min(want);
                 if from < FIRST_VARIABLE {
                     return denied();
                 }
                 sequence = replaced(from, to, sequence);
             }
         }
-        i += 1;
     }
     sequence
 }
@@ -113,12 +97,10 @@ fn followed(mut sequence: Vectors, last: [u8; PLACE_COUNT]) -> Vectors
         × (result.effect ≡ values_of last sequence.effect) }
 {
     let held = sequence.effect;
-    let mut i: usize = 0;
-    while i < PLACE_COUNT {
+    for i in 0..PLACE_COUNT {
         let entry = last[i];
         let place = (entry % MAX_POSITIONS) as usize;
         sequence.effect[i] = stands_for(entry, held[place]);
-        i += 1;
     }
     sequence
 }
@@ -152,11 +134,8 @@ fn own_variables(positions: u8, sizes: [u8; PLACE_COUNT]) -> [u8; PLACE_COUNT]
     ensures { result ≡ own_variables positions sizes }
 {
     let mut entries = [0u8; PLACE_COUNT];
-    let count = smaller(positions, MAX_POSITIONS);
-    let mut i: u8 = 0;
-    while i < count {
+    for i in 0..positions.min(MAX_POSITIONS) {
         entries[i as usize] = own_entry(sizes[i as usize], FIRST_VARIABLE + i);
-        i += 1;
     }
     entries
 }

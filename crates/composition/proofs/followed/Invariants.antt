@@ -2,7 +2,7 @@
 -- other entries stand for, are the whole.
 use mathlib.Core.Path.{◌≡◌}
 use mathlib.Core.List.{◌++◌}
-use Prim.Native.Nat.{◌≤◌, ◌-◌}
+use Prim.Native.Nat.{◌≤◌}
 use lib.ListN.{length, take, drop}
 use Rattle.model_spec.specs.States.{values_of}
 use Rattle.composition.proofs.followed.Given as goal
@@ -14,6 +14,3 @@ invariant-loop-i l =
     × (l.sequence.condition ≡ l.initial.sequence.condition)
     × (length l.sequence.effect ≡ 16)
     × (take l.i l.sequence.effect ++ values_of (drop l.i l.last) l.held ≡ values_of l.last l.held)
-
-abbrev pub decreases-loop-i : goal.decreases-loop-i
-decreases-loop-i l = 16 - l.i

@@ -29,24 +29,18 @@ unfolding own_variables
 loop-i-init c = (search rules, search rules, refl, refl)
 
 pub bounds-sizes-i : goal.bounds-sizes-i
-bounds-sizes-i c = omega (arith, c.smaller-count.ensures)
+bounds-sizes-i c = omega (arith, c.min-i-end.ensures)
 
 pub overflow_add-i : goal.overflow_add-i
-overflow_add-i c = omega (arith, c.smaller-count.ensures)
+overflow_add-i c = omega (arith, c.min-i-end.ensures)
 
 pub bounds-entries-i : goal.bounds-entries-i
-bounds-entries-i c = omega (arith, c.smaller-count.ensures)
-
-pub overflow_add-i-in-loop-i : goal.overflow_add-i-in-loop-i
-overflow_add-i-in-loop-i c = omega (arith, c.smaller-count.ensures)
-
-pub loop-i-smaller : goal.loop-i-smaller
-loop-i-smaller c = omega (arith, c.smaller-count.ensures)
+bounds-entries-i c = omega (arith, c.min-i-end.ensures)
 
 pub loop-i-preserved : goal.loop-i-preserved
 loop-i-preserved c =
     let l = c.loop-i in
-    let count = c.smaller-count.ensures in
+    let count = c.min-i-end.ensures in
     let within : l.i < 16 = omega (arith, count) in (
       search rules,
       search rules,
@@ -59,6 +53,6 @@ pub returns : goal.returns
 returns c =
     let l = c.loop-i in
     let positions = c.args.positions in
-    let count = c.smaller-count.ensures in
+    let count = c.min-i-end.ensures in
     fill-zeros _ l.i 16 l.entries _ l.invariant.2 (omega (arith, count))
     (λ k hk hn. zero-due positions _ k (omega (arith, count))) l.invariant.3

@@ -12,12 +12,9 @@ use Rattle.composition.proofs.own_variables.Given as goal
 
 abbrev pub invariant-loop-i : goal.invariant-loop-i
 invariant-loop-i l =
-    (l.i ≤ l.count)
+    (l.i ≤ l.i-end)
     × (length l.entries ≡ 16)
     × (take l.i l.entries
     ++ map (λ k. cond (many_valued l.positions l.sizes k) (16 + k) 0) (numbers_from l.i (16 - l.i))
     ≡ own_variables l.positions l.sizes)
     × (drop l.i l.entries ≡ replicate (16 - l.i) 0)
-
-abbrev pub decreases-loop-i : goal.decreases-loop-i
-decreases-loop-i l = 16 - l.i

@@ -25,7 +25,7 @@ returns-then-from-lt-FIRST_VARIABLE c =
     let m = lines_in l.sequence in
     c.denied.ensures
     ∙ ap as_vectors (unify-clash c.args.asked l.i m _ l.invariant.2 (omega arith) _ _ refl
-    c.stands_for-want.ensures _ c.larger-from.ensures c.if-from-lt-FIRST_VARIABLE.true c.if-have-want.true)
+    c.stands_for-want.ensures _ c.max-from.ensures c.if-from-lt-FIRST_VARIABLE.true c.if-have-want.true)
 
 pub loop-i-preserved : goal.loop-i-preserved
 unfolding value_of
@@ -39,8 +39,8 @@ loop-i-preserved c =
       | then-asks+then-have-want+else-from-lt-FIRST_VARIABLE w ↦ rw w.sequence-is (
         next,
         w.replaced-sequence.ensures.0 ∙ l.invariant.1,
-        unify_go asked l.i m _ l.invariant.2 within _ _ refl w.stands_for-want.ensures _ _ _ _ w.larger-from.ensures
-            w.smaller-to.ensures w.if-from-lt-FIRST_VARIABLE.false w.replaced-sequence.ensures.1
+        unify_go asked l.i m _ l.invariant.2 within _ _ refl w.stands_for-want.ensures _ _ _ _ w.max-from.ensures
+            w.min-to.ensures w.if-from-lt-FIRST_VARIABLE.false w.replaced-sequence.ensures.1
             w.replaced-sequence.ensures.2,
       )
       | then-asks+else-have-want w ↦ rw w.sequence-is (

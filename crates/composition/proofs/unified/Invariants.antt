@@ -2,7 +2,7 @@
 -- they stand, decides the whole.
 use mathlib.Core.Path.{◌≡◌}
 use mathlib.Core.Bool.{true}
-use Prim.Native.Nat.{◌≤◌, ◌-◌}
+use Prim.Native.Nat.{◌≤◌}
 use lib.ListN.{drop}
 use Rattle.macros_spec.specs.Composition.{Lines, unified}
 use Rattle.macros_spec.specs.declared.Vectors.{Vectors}
@@ -17,6 +17,3 @@ invariant-loop-i l =
     (l.i ≤ 16)
     × (l.sequence.admitted ≡ true)
     × (unified (drop l.i l.asked) l.i (lines_in l.sequence) ≡ unified l.asked 0 (lines_in l.initial.sequence))
-
-abbrev pub decreases-loop-i : goal.decreases-loop-i
-decreases-loop-i l = 16 - l.i
