@@ -40,14 +40,10 @@ fn composed(set: RuleSet, moves: &[u8]) -> Vectors
     requires { Numbered max_rules moves.now }
     ensures { result ≡ as_vectors (composed set moves.now) }
 {
-    let mut sequence = empty(set);
-    let mut i: usize = 0;
-    while i < moves.len() {
-        let rule = rule_at(set, moves[i]);
-        sequence = extended(sequence, rule);
-        i += 1;
-    }
-    sequence
+    moves.iter().fold(
+        empty(set),
+        |sequence, number| extended(sequence, rule_at(set, *number)),
+    )
 }
 
 // The macro of a sequence once the set is judged.

@@ -5,7 +5,7 @@
 use mathlib.Core.Path.{◌≡◌, refl, sym, ap, ◌∙◌}
 use mathlib.Core.Bool.{true, false, not}
 use mathlib.Core.Option.{Option, some, none}
-use mathlib.Core.List.{List, ◌∷◌, ◌++◌, map, append-nil}
+use mathlib.Core.List.{List, [], ◌∷◌, ◌++◌, map, append-nil}
 use Prim.Native.Nat.{ℕ, zero, suc, ◌+◌, ◌-◌, ◌%◌, ◌≤◌, ◌<◌, min, max}
 use native.Mathlib.Numerals.{add-one}
 use native.Mathlib.Omega.{arith}
@@ -18,6 +18,7 @@ use Rattle.theory_spec.specs.Sequences.{Sequence}
 use Rattle.theory_spec.proofs.ListLaws.{never_true}
 use Rattle.model_spec.specs.States.{value_of, values_of}
 use Rattle.model_spec.proofs.LoopLaws.{left_more}
+use Rattle.model_spec.proofs.MoveLaws.{rule_among}
 use Rattle.model_spec.specs.Rules.{rule_at}
 use Rattle.model_spec.specs.declared.Rule.{Rule}
 use Rattle.model_spec.specs.declared.RuleSet.{RuleSet}
@@ -167,6 +168,14 @@ module _ (rule : Rule) (v : Vectors) where
     extend_met reached h er = rw (admitted, lines-admitted met unification e h, er)
 
 -- ── The rules of a sequence, one after another ───────────────────────────────────────────────────
+
+-- one number more, where the code limits it by 31
+pub compose_more : (set : RuleSet) (q : Sequence) (v : Vectors) (number : ℕ) (next : Vectors)
+    → v ≡ as_vectors (composed set q) → number ≤ 31
+    → next ≡ as_vectors (extended (rule_at set (min number 31)) (lines_of v))
+    → next ≡ as_vectors (composed set (q ++ number ∷ []))
+compose_more set q v number next inv h e =
+    rw (composed-extended set q number) (rw (lines_of_lem v (composed set q) inv, rule_among set number h) at e)
 
 module _ (set : RuleSet) (moves : Sequence) (i : ℕ) (v : Vectors)
     (inv : v ≡ as_vectors (composed set (take i moves))) where
