@@ -11,23 +11,20 @@ ghost use Rattle.macros_spec.specs.Redundancy.{ends_in, last_number, redundant_b
 use macros_spec::Vectors;
 use model_spec::{MAX_RULES, PLACE_COUNT, RuleSet};
 use moves::{cost_of, has_unknown_move};
-use states::{after, runs, same_entries};
+use states::{after, runs};
 
 // The number of a set's last rule, which is at most 31.
 fn last_number(set: RuleSet) -> u8
     ensures { result ≡ last_number set }
 {
-    if set.count < MAX_RULES {
-        return set.count;
-    }
-    MAX_RULES
+    set.count.min(MAX_RULES)
 }
 
 // Whether a sequence costs at most this.
 fn costs_at_most(set: RuleSet, moves: &[u8], most: u16) -> bool
     ensures { result ≡ leb (sequence_cost set moves.now) most }
 {
-    cost_of(set, moves) <= most as u32
+    cost_of(set, moves) <= u32::from(most)
 }
 
 // Whether the rules of a sequence run in turn on a condition, as on a state of entries, and end in the effect.
@@ -41,19 +38,14 @@ fn leads(
     ensures { result ≡ ends_in (run_in set moves.now condition) effect }
 {
     let mut entries = condition;
-    let mut i: usize = 0;
-    while i < moves.len() {
-        let rule = set.rules[(moves[i] - 1) as usize];
-        let asked = rule.condition;
-        let last = rule.effect;
-        if !runs(&asked, &entries) {
+    for number in moves {
+        let rule = set.rules[(*number - 1) as usize];
+        if !runs(&rule.condition, &entries) {
             return false;
         }
-        let next = after(&last, &entries);
-        entries = next;
-        i += 1;
+        entries = after(&rule.effect, &entries);
     }
-    same_entries(&entries, &effect)
+    entries == effect
 }
 
 // Whether a sequence with these vectors and this cost is redundant with the witness, a sequence of the set's rules.
@@ -71,7 +63,5 @@ pub fn is_redundant(set: RuleSet, sequence: Vectors, cost: u16, witness: &[u8]) 
     if !sequence.admitted {
         return true;
     }
-    let condition = sequence.condition;
-    let effect = sequence.effect;
-    leads(set, witness, condition, effect)
+    leads(set, witness, sequence.condition, sequence.effect)
 }

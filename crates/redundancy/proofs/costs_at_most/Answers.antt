@@ -7,4 +7,4 @@ use Rattle.redundancy.proofs.costs_at_most.Goals as goal
 pub returns : goal.returns
 returns c =
     let s = c.args in
-    rw c.cost_of.ensures (limited_cost_test 65536 (sequence_cost s.set s.moves.now) s.most (search rules))
+    rw (c.cost_of.ensures, c.from.ensures) (limited_cost_test 65536 (sequence_cost s.set s.moves.now) s.most (search rules))

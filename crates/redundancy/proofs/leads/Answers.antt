@@ -1,46 +1,51 @@
 -- `redundancy::leads` meets its contract. The invariant: whether the moves left lead from the entries to the effect
 -- decides the whole.
-use mathlib.Core.Path.{refl, sym, ◌∙◌}
+use mathlib.Core.Path.{◌≡◌, refl, sym, ap, ◌∙◌}
+use mathlib.Core.Bool.{◌&&◌}
+use mathlib.Core.List.{List, [], ◌∷◌}
+use Prim.Native.Nat.{ℕ}
 use native.Mathlib.Omega.{arith}
-use borrow.Author.Rules.{rules}
+use lib.Dec.{eqb}
+use lib.Pointwise.{pointwise}
+use Rattle.theory_spec.specs.Lists.{same}
 use Rattle.model_spec.specs.Rules.{rule_at}
 use Rattle.model_spec.proofs.MoveLaws.{numbered_at}
 use Rattle.macros_spec.proofs.MoveLoopLaws.{leads_go, leads_stop, leads-end}
 use Rattle.redundancy.proofs.leads.Goals as goal
 
-pub loop-i-init : goal.loop-i-init
-loop-i-init c = (search rules, refl)
+-- what `==` of two arrays tells
+same_is : (x y : List ℕ) → pointwise eqb x y ≡ same x y
+same_is [] [] = refl
+same_is [] (b ∷ y) = refl
+same_is (a ∷ x) [] = refl
+same_is (a ∷ x) (b ∷ y) = ap (λ r. eqb a b && r) (same_is x y)
 
 pub overflow_sub-rule : goal.overflow_sub-rule
-overflow_sub-rule c = omega (arith, numbered_at 31 c.args.moves.now c.loop-i.i c.requires (omega arith))
+overflow_sub-rule c = omega (arith, numbered_at 31 c.args.moves.now c.loop-number.number-index c.requires (omega arith))
 
-pub overflow_cast-rule : goal.overflow_cast-rule
-overflow_cast-rule c = omega (arith, numbered_at 31 c.args.moves.now c.loop-i.i c.requires (omega arith))
-
-pub offset_bounds-set-moves : goal.offset_bounds-set-moves
-offset_bounds-set-moves c = omega (arith, numbered_at 31 c.args.moves.now c.loop-i.i c.requires (omega arith))
-
-pub bounds-set-moves : goal.bounds-set-moves
-bounds-set-moves c = omega (arith, numbered_at 31 c.args.moves.now c.loop-i.i c.requires (omega arith))
+pub bounds-set-number : goal.bounds-set-number
+bounds-set-number c = omega (arith, numbered_at 31 c.args.moves.now c.loop-number.number-index c.requires (omega arith))
 
 pub returns-then-not-runs : goal.returns-then-not-runs
 unfolding rule_at
 returns-then-not-runs c =
     let s = c.args in
-    leads_stop s.set s.moves.now c.loop-i.i c.loop-i.entries s.effect _ c.loop-i.invariant.1 _ refl
+    let l = c.loop-number in
+    leads_stop s.set s.moves.now l.number-index l.entries s.effect _ l.invariant _ refl
     (omega arith) (sym c.runs.ensures ∙ c.if-not-runs.true)
 
-pub loop-i-preserved : goal.loop-i-preserved
+pub loop-number-preserved : goal.loop-number-preserved
 unfolding rule_at
-loop-i-preserved c =
-    let s = c.args in (
-      search rules,
-      leads_go s.set s.moves.now c.loop-i.i c.loop-i.entries s.effect _ c.loop-i.invariant.1 _ refl
-          (omega arith) (sym c.runs.ensures ∙ c.if-not-runs.false) _ c.after-next.ensures,
-    )
+loop-number-preserved c =
+    let s = c.args in
+    let l = c.loop-number in
+    leads_go s.set s.moves.now l.number-index l.entries s.effect _ l.invariant _ refl
+    (omega arith) (sym c.runs.ensures ∙ c.if-not-runs.false) _ c.after-entries.ensures
 
 pub returns : goal.returns
 returns c =
     let s = c.args in
-    c.same_entries.ensures
-    ∙ leads-end s.set s.moves.now c.loop-i.i c.loop-i.entries s.effect _ c.loop-i.invariant.1 (omega arith)
+    let l = c.loop-number in
+    c.eq.ensures
+    ∙ same_is l.entries s.effect
+    ∙ leads-end s.set s.moves.now l.number-index l.entries s.effect _ l.invariant (omega arith)
