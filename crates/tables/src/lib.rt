@@ -11,10 +11,7 @@ pub const KEPT: usize = 65535;
 fn byte_at(table: &[u8], i: usize) -> u8
     ensures { result ≡ get_or table.now i 0 }
 {
-    if i < table.len() {
-        return table[i];
-    }
-    0
+    table.get(i).copied().unwrap_or(0)
 }
 
 // An entry of a table: two bytes, low byte first. Bytes beyond the table's end are 0.
@@ -25,9 +22,8 @@ pub fn entry_at(table: &[u8], i: usize) -> usize
     if table.len() / 2 < i {
         return 0;
     }
-    let low = byte_at(table, 2 * i) as usize;
-    let high = byte_at(table, 2 * i + 1) as usize;
-    low + 256 * high
+    let bytes = [byte_at(table, 2 * i), byte_at(table, 2 * i + 1)];
+    u16::from_le_bytes(bytes) as usize
 }
 
 // How many sequences have at most `reach` rules, the number of a table's entries. A reach above 3 counts as 3.
@@ -35,14 +31,9 @@ pub fn sequence_count(count: u8, reach: usize) -> usize
     ensures { result ≡ sequence_count count (min reach 3) }
 {
     let many = count as usize;
-    let mut first: usize = 1;
-    let mut n: usize = 0;
-    while n < 3 {
-        if reach <= n {
-            return first;
-        }
+    let mut first = 1;
+    for _ in 0..reach.min(3) {
         first = first * many + 1;
-        n += 1;
     }
     first
 }

@@ -1,9 +1,9 @@
--- `tables::sequence_count` meets its contract. The invariant: `first` is the number of sequences of at most n rules.
+-- `tables::sequence_count` meets its contract. The invariant: `first` is the number of sequences of as many rules as
+-- there were turns.
 use mathlib.Core.Path.{◌≡◌, sym, ap, ◌∙◌}
-use Prim.Native.Nat.{ℕ, min, ◌+◌, ◌*◌, ◌≤◌, ◌<◌}
+use Prim.Native.Nat.{ℕ, ◌+◌, ◌*◌, ◌≤◌, ◌<◌}
 use native.Mathlib.Numerals.{add-one}
 use native.Mathlib.Omega.{arith}
-use borrow.Author.Rules.{rules}
 use Rattle.tables_spec.specs.Table.{sequence_count}
 use Rattle.tables_spec.proofs.CountLaws.{count_next, count_byte}
 use Rattle.tables.proofs.sequence_count.Goals as goal
@@ -16,31 +16,13 @@ next m n first e = ap (λ k. k * m + 1) e ∙ sym (count_next m n) ∙ ap (seque
 next-bound : (m n first : ℕ) → m ≤ 255 → n < 3 → first ≡ sequence_count m n → first * m + 1 ≤ 16646656
 next-bound m n first few h e = rw (next m n first e) (count_byte m (n + 1) few (omega arith))
 
-pub returns-then-reach-n : goal.returns-then-reach-n
-returns-then-reach-n c =
-    let e : c.loop-n.n ≡ min c.args.reach 3 = omega arith in
-    c.loop-n.invariant.2 ∙ ap (sequence_count c.args.count) e
-
 pub overflow_mul-first : goal.overflow_mul-first
 overflow_mul-first c =
-    omega (
-      arith,
-      next-bound c.args.count c.loop-n.n c.loop-n.first (omega arith) (omega arith)
-          c.loop-n.invariant.2,
-    )
+    omega (arith, next-bound c.args.count c.loop.counter c.loop.first (omega arith) (omega arith) c.loop.invariant)
 
 pub overflow_add-first : goal.overflow_add-first
 overflow_add-first c =
-    omega (
-      arith,
-      next-bound c.args.count c.loop-n.n c.loop-n.first (omega arith) (omega arith)
-          c.loop-n.invariant.2,
-    )
+    omega (arith, next-bound c.args.count c.loop.counter c.loop.first (omega arith) (omega arith) c.loop.invariant)
 
-pub loop-n-preserved : goal.loop-n-preserved
-loop-n-preserved c = (search rules, search rules, next c.args.count c.loop-n.n c.loop-n.first c.loop-n.invariant.2)
-
-pub returns : goal.returns
-returns c =
-    let e : c.loop-n.n ≡ min c.args.reach 3 = omega arith in
-    c.loop-n.invariant.2 ∙ ap (sequence_count c.args.count) e
+pub loop-preserved : goal.loop-preserved
+loop-preserved c = next c.args.count c.loop.counter c.loop.first c.loop.invariant

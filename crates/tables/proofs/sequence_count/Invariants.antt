@@ -1,11 +1,8 @@
--- `tables::sequence_count` meets its contract. The invariant: `first` is the number of sequences of at most n rules.
+-- `tables::sequence_count` meets its contract. The invariant: `first` is the number of sequences of as many rules as
+-- there were turns.
 use mathlib.Core.Path.{◌≡◌}
-use Prim.Native.Nat.{◌≤◌, ◌-◌}
 use Rattle.tables_spec.specs.Table.{sequence_count}
 use Rattle.tables.proofs.sequence_count.Given as goal
 
-abbrev pub invariant-loop-n : goal.invariant-loop-n
-invariant-loop-n l = (l.n ≤ 3) × (l.n ≤ l.reach) × (l.first ≡ sequence_count l.count l.n)
-
-abbrev pub decreases-loop-n : goal.decreases-loop-n
-decreases-loop-n l = 3 - l.n
+abbrev pub invariant-loop : goal.invariant-loop
+invariant-loop l = l.first ≡ sequence_count l.count l.counter

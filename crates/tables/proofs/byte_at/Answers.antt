@@ -1,8 +1,0 @@
--- `tables::byte_at` meets its contract: beyond the end of a table a read gives the default.
-use mathlib.Core.Path.{sym}
-use native.Mathlib.Omega.{arith}
-use lib.ListN.{get_or-eq_default}
-use Rattle.tables.proofs.byte_at.Goals as goal
-
-pub returns : goal.returns
-returns c = sym (get_or-eq_default c.args.table.now 0 (omega arith))
