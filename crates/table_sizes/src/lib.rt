@@ -1,33 +1,39 @@
 // How long a pruning table is, and whether a table has that length.
 #![tactic(auto)]
 
-ghost use Rattle.std.specs.Prelude.{◌≡◌};
+ghost use Rattle.std.specs.Prelude.{◌≡◌, ◌*◌, IfOk};
 ghost use Rattle.model_spec.specs.Refusals.{first_refusal};
-ghost use Rattle.tables_spec.specs.Answers.{reach_causes, shape_causes, size_with, table_size, SizeMeaning};
+ghost use Rattle.tables_spec.specs.Table.{table_entries};
+ghost use Rattle.tables_spec.specs.Answers.{reach_causes, size_causes, shape_causes, table_size, SizeMeaning};
+ghost use Rattle.tables_laws.specs.How.Outcomes.{outcome_of};
 
 use model_spec::RuleSet;
+use refusals::number_of;
+use refusals_spec::Refusal;
 use tables::sequence_count;
 use tables_spec::TableSize;
 use validity::is_valid;
 
 // How long a table is for a reach, in bytes, once the set is judged.
-fn size_for(set: RuleSet, reach: usize) -> TableSize
-    ensures { result ≡ size_with set reach (first_refusal (reach_causes reach)) }
+fn size_for(set: RuleSet, reach: usize) -> Result<usize, Refusal>
+    ensures outcome { outcome_of result ≡ first_refusal (reach_causes reach) }
+    ensures length { IfOk result (λ length. length ≡ 2 * table_entries set reach) }
 {
-    if reach < 1 {
-        return TableSize {
-            outcome: 5,
-            length: 0,
-        };
+    if !(1..=3).contains(&reach) {
+        return Err(Refusal::Reach);
     }
-    if 3 < reach {
-        return TableSize {
-            outcome: 5,
-            length: 0,
-        };
+    Ok(2 * sequence_count(set.count, reach))
+}
+
+// How long the table of a rule set is for a reach, in bytes.
+fn judged_size(set: RuleSet, reach: usize) -> Result<usize, Refusal>
+    ensures outcome { outcome_of result ≡ first_refusal (size_causes set reach) }
+    ensures length { IfOk result (λ length. length ≡ 2 * table_entries set reach) }
+{
+    if !is_valid(set) {
+        return Err(Refusal::RuleSet);
     }
-    let length = 2 * sequence_count(set.count, reach);
-    TableSize { outcome: 0, length }
+    size_for(set, reach)
 }
 
 // How long the table of a rule set is for a reach, in bytes.
@@ -35,25 +41,21 @@ pub fn table_size(set: RuleSet, reach: usize) -> TableSize
     ensures { (result ≡ table_size set reach)
         × SizeMeaning set reach result }
 {
-    if !is_valid(set) {
-        return TableSize {
-            outcome: 7,
+    match judged_size(set, reach) {
+        Ok(length) => TableSize { outcome: 0, length },
+        Err(refusal) => TableSize {
+            outcome: number_of(refusal),
             length: 0,
-        };
+        },
     }
-    size_for(set, reach)
 }
 
-// Once the set is judged: 5 for a bad reach, 6 for a table of another length, else 0.
-pub fn shape_refusal(set: RuleSet, reach: usize, size: usize) -> u8
-    ensures { result ≡ first_refusal (shape_causes set reach size) }
+// Once the set is judged: whether a table has the length of its reach.
+pub fn shape_refusal(set: RuleSet, reach: usize, size: usize) -> Result<(), Refusal>
+    ensures { outcome_of result ≡ first_refusal (shape_causes set reach size) }
 {
-    let due = size_for(set, reach);
-    if due.outcome != 0 {
-        return due.outcome;
+    if size_for(set, reach)? != size {
+        return Err(Refusal::TableLength);
     }
-    if size != due.length {
-        return 6;
-    }
-    0
+    Ok(())
 }

@@ -4,3 +4,4 @@ pub mod SequenceLoopLaws
 pub mod TableLoopLaws
 pub mod MarkLaws
 pub mod Shapes
+pub mod OutcomeLaws

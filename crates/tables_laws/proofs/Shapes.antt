@@ -1,12 +1,11 @@
 -- What owning a short sequence tells of its array: it has as many places as the type says.
 -- A proof hands over `.ok` of a call's result.
 -- Assumes nothing.
-use mathlib.Core.Path.{◌≡◌, sym, ◌∙◌}
+use mathlib.Core.Path.{◌≡◌}
 use mathlib.Core.List.{List}
-use lib.ListN.{length, length-map}
+use lib.ListN.{length}
 use mir.Val.{Val}
 use denote.Laws.{Is}
-use denote.Struct.Field.{u8-field}
 use denote.Struct.Laws as LL
 use Rattle.tables_laws.specs.declared.ShortSequence.{ShortSequence}
 use Rattle.tables_laws.specs.contracts.ShortSequence as T
