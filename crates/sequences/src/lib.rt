@@ -1,7 +1,7 @@
 // The sequences of at most three rules by their indices, and what the tables need to know of each.
 #![tactic(auto)]
 
-ghost use Rattle.std.specs.Prelude.{◌≡◌, min, max, ◌≤◌, length, drop};
+ghost use Rattle.std.specs.Prelude.{◌≡◌, ◌≤◌, length, drop};
 ghost use Rattle.theory_spec.specs.Sequences.{Numbered};
 ghost use Rattle.model_spec.specs.Limits.{max_rules};
 ghost use Rattle.model_spec.specs.Rules.{sequence_cost};
@@ -12,33 +12,17 @@ use composition::{empty, extended};
 use model_spec::{MAX_RULES, RuleSet};
 use tables_laws::{Profile, ShortSequence};
 
-// A number of rules as a valid set may have it, from 1 to 31: the nearest one.
-fn rule_count(count: u8) -> u8
-    ensures { result ≡ max 1 (min count max_rules) }
-{
-    if count < 1 {
-        return 1;
-    }
-    if MAX_RULES < count {
-        return MAX_RULES;
-    }
-    count
-}
-
 // The sequence of an index, of at most three rules: the last three of a longer one. Its last rule is found first.
 // A number of rules outside 1 to 31 counts as the nearest of these.
 pub fn sequence_at(count: u8, index: usize) -> ShortSequence
     ensures { (result.start ≤ 3)
         × (drop result.start result.rules ≡ short_sequence count index) }
 {
-    let many = rule_count(count) as usize;
-    let mut rules = [0u8; 3];
-    let mut start: usize = 3;
+    let many = count.clamp(1, MAX_RULES) as usize;
+    let mut rules = [0; 3];
+    let mut start = 3;
     let mut rest = index;
-    while 0 < start {
-        if rest == 0 {
-            return ShortSequence { start, rules };
-        }
+    while 0 < start && 0 < rest {
         let before = rest - 1;
         start -= 1;
         rules[start] = (before % many) as u8 + 1;
@@ -56,13 +40,11 @@ fn profile_of(set: RuleSet, moves: &[u8]) -> Profile
         × (result.cost ≡ sequence_cost set sequence) }
 {
     let mut vectors = empty(set);
-    let mut cost: u16 = 0;
-    let mut i: usize = 0;
-    while i < moves.len() {
-        let rule = set.rules[(moves[i] - 1) as usize];
+    let mut cost = 0;
+    for number in moves {
+        let rule = set.rules[(*number - 1) as usize];
         vectors = extended(vectors, rule);
-        cost = cost + rule.cost as u16;
-        i += 1;
+        cost += rule.cost as u16;
     }
     Profile { vectors, cost }
 }
@@ -74,7 +56,5 @@ pub fn profile_at(set: RuleSet, index: usize) -> Profile
         × (result.cost ≡ sequence_cost set sequence) }
 {
     let sequence = sequence_at(set.count, index);
-    let start = sequence.start;
-    let rules = sequence.rules;
-    profile_of(set, &rules[start..])
+    profile_of(set, &sequence.rules[sequence.start..])
 }

@@ -92,6 +92,10 @@ short_at set valid i h = near_at set valid 3 (omega arith) i h
 
 -- ── The part of the array that is lent ───────────────────────────────────────────────────────────
 
+-- from a place to the end
+pub part_rest : (start : ℕ) (rules : List ℕ) → take (length rules - start) (drop start rules) ≡ drop start rules
+part_rest start rules = take_all (length rules - start) (drop start rules) (omega (arith, length-drop start rules))
+
 -- from a place to the end of three
 pub part_three : (start : ℕ) (rules : List ℕ) → length rules ≡ 3
     → take (3 - start) (drop start rules) ≡ drop start rules

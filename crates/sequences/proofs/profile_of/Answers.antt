@@ -11,29 +11,29 @@ use Rattle.macros_spec.proofs.MoveLoopLaws.{cost_go, cost-end}
 use Rattle.macros_spec.proofs.CompositionLoopLaws.{compose_go, compose-end}
 use Rattle.sequences.proofs.profile_of.Goals as goal
 
-pub loop-i-init : goal.loop-i-init
+pub loop-number-init : goal.loop-number-init
 unfolding composed composed_from empty_lines
-loop-i-init c = (search rules, c.empty-vectors.ensures.0, search rules, search rules)
+loop-number-init c = (search rules, c.empty-vectors.ensures.0, search rules, search rules)
 
 pub overflow_sub-rule : goal.overflow_sub-rule
-overflow_sub-rule c = omega (arith, (numbered_at 31 c.args.moves.now c.loop-i.i c.requires.0 (omega arith)))
+overflow_sub-rule c = omega (arith, (numbered_at 31 c.args.moves.now c.loop-number.number-index c.requires.0 (omega arith)))
 
 pub overflow_cast-rule : goal.overflow_cast-rule
-overflow_cast-rule c = omega (arith, (numbered_at 31 c.args.moves.now c.loop-i.i c.requires.0 (omega arith)))
+overflow_cast-rule c = omega (arith, (numbered_at 31 c.args.moves.now c.loop-number.number-index c.requires.0 (omega arith)))
 
-pub offset_bounds-set-moves : goal.offset_bounds-set-moves
-offset_bounds-set-moves c = omega (arith, (numbered_at 31 c.args.moves.now c.loop-i.i c.requires.0 (omega arith)))
+pub offset_bounds-set-number : goal.offset_bounds-set-number
+offset_bounds-set-number c = omega (arith, (numbered_at 31 c.args.moves.now c.loop-number.number-index c.requires.0 (omega arith)))
 
-pub bounds-set-moves : goal.bounds-set-moves
-bounds-set-moves c = omega (arith, (numbered_at 31 c.args.moves.now c.loop-i.i c.requires.0 (omega arith)))
+pub bounds-set-number : goal.bounds-set-number
+bounds-set-number c = omega (arith, (numbered_at 31 c.args.moves.now c.loop-number.number-index c.requires.0 (omega arith)))
 
-pub loop-i-preserved : goal.loop-i-preserved
+pub loop-number-preserved : goal.loop-number-preserved
 unfolding rule_at
-loop-i-preserved c =
+loop-number-preserved c =
     let a = c.args in
-    let left = cost_go a.set a.moves.now c.loop-i.i _ refl (omega arith) in (
+    let left = cost_go a.set a.moves.now c.loop-number.number-index _ refl (omega arith) in (
       search rules,
-      compose_go a.set a.moves.now c.loop-i.i c.loop-i.vectors c.loop-i.invariant.1 _ _ refl
+      compose_go a.set a.moves.now c.loop-number.number-index c.loop-number.vectors c.loop-number.invariant.1 _ _ refl
           c.extended-vectors.ensures.0 (omega arith),
       omega (arith, left),
       search rules,
@@ -42,6 +42,6 @@ loop-i-preserved c =
 pub returns : goal.returns
 returns c =
     let a = c.args in (
-      compose-end a.set a.moves.now c.loop-i.i c.loop-i.vectors c.loop-i.invariant.1 (omega arith),
-      omega (arith, cost-end a.set a.moves.now c.loop-i.i (omega arith)),
+      compose-end a.set a.moves.now c.loop-number.number-index c.loop-number.vectors c.loop-number.invariant.1 (omega arith),
+      omega (arith, cost-end a.set a.moves.now c.loop-number.number-index (omega arith)),
     )

@@ -21,30 +21,23 @@ pub loop-start-init : goal.loop-start-init
 unfolding short_sequence
 loop-start-init c =
     let s = c.args in
-    let e = c.rule_count-many.ensures in
-    let all = sym (append-nil (sequence_of c.rule_count-many.result 3 s.index)) in
+    let e = c.clamp-many.ensures in
+    let all = sym (append-nil (sequence_of c.clamp-many.result 3 s.index)) in
     (omega arith, omega arith, search rules, search rules, ap (λ m. sequence_of m 3 s.index) (sym e) ∙ all)
-
-pub returns-then-rest-eq0 : goal.returns-then-rest-eq0
-returns-then-rest-eq0 c =
-    let m = c.rule_count-many.result in
-    let l = c.loop-start in
-    let none = sequence-end m l.start l.rest c.if-rest-eq0.true in
-    (l.invariant.2, ended m l.start l.rest l.rules _ l.invariant.4 none)
 
 pub overflow_cast-rules : goal.overflow_cast-rules
 overflow_cast-rules c =
     let l = c.loop-start in
-    omega (arith, mod-lt (l.rest - 1) {m = c.rule_count-many.result} l.invariant.0)
+    omega (arith, mod-lt (l.rest - 1) {m = c.clamp-many.result} l.invariant.0)
 
 pub overflow_add-rules : goal.overflow_add-rules
 overflow_add-rules c =
     let l = c.loop-start in
-    omega (arith, mod-lt (l.rest - 1) {m = c.rule_count-many.result} l.invariant.0)
+    omega (arith, mod-lt (l.rest - 1) {m = c.clamp-many.result} l.invariant.0)
 
 pub loop-start-preserved : goal.loop-start-preserved
 loop-start-preserved c =
-    let m = c.rule_count-many.result in
+    let m = c.clamp-many.result in
     let l = c.loop-start in (
       l.invariant.0,
       l.invariant.1,
@@ -53,9 +46,14 @@ loop-start-preserved c =
       l.invariant.4 ∙ sequence_go m l.start l.rest l.rules (omega arith) (omega arith) (omega arith),
     )
 
-pub returns : goal.returns
-returns c =
-    let m = c.rule_count-many.result in
+pub returns-else-rest-gt0 : goal.returns-else-rest-gt0
+returns-else-rest-gt0 c =
     let l = c.loop-start in
-    let none = sequence_full m l.start l.rest c.loop-start-test.false in
-    (l.invariant.2, ended m l.start l.rest l.rules _ l.invariant.4 none)
+    let none = sequence-end c.clamp-many.result l.start l.rest (omega arith) in
+    (l.invariant.2, ended c.clamp-many.result l.start l.rest l.rules _ l.invariant.4 none)
+
+pub returns-after-loop-start : goal.returns-after-loop-start
+returns-after-loop-start c =
+    let l = c.loop-start in
+    let none = sequence_full c.clamp-many.result l.start l.rest c.loop-start-test.false in
+    (l.invariant.2, ended c.clamp-many.result l.start l.rest l.rules _ l.invariant.4 none)
