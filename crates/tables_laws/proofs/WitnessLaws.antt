@@ -1,23 +1,24 @@
--- Laws of the search for a witness: what `first_behind` finds in joined lists and behind one more rule, and the turns of
+-- Laws of the search for a witness: what `find_behind` finds in joined lists and behind one more rule, and the turns of
 -- the loops over rules and lengths.
 -- Assumes nothing.
 use mathlib.Core.Path.{◌≡◌, refl, sym, ap, ◌∙◌, subst, fun_ext}
-use mathlib.Core.Logic.{◌≢◌, ⊎_elim}
+use mathlib.Core.Logic.{⊎_elim}
 use mathlib.Core.Bool.{Bool, true, false, cond, ◌&&◌, and-false, and_assoc}
-use mathlib.Core.Option.{Option, some}
-use mathlib.Core.List.Memᴰ
+use mathlib.Core.Option as Math
+use mathlib.Core.Option.{some}
 use mathlib.Core.List.{List, [], ◌∷◌, ◌++◌}
 use Prim.Native.Nat.{ℕ, zero, suc, ◌+◌, ◌*◌, ◌-◌, ◌≤◌, ◌<◌}
 use native.Mathlib.Omega.{arith}
 use lib.Dec.{leb}
-use lib.ListN.{length, get_or}
+use lib.ListN.{get_or}
 use borrow.Author.Tests.{leb-true, leb-false, le-leb, lt-leb}
-use Rattle.theory_spec.specs.Lists.{◌∈◌, only_if, flat, numbers_from, same}
-use Rattle.theory_spec.specs.Sequences.{Sequence, and_then, Numbered, with_first, level, sequences}
+use Rattle.std.specs.Option.{option_or}
+use Rattle.std.specs.Prelude.{Option, None, Some, unwrap_or}
+use Rattle.theory_spec.specs.Lists.{only_if, flat, numbers_from, same}
+use Rattle.theory_spec.specs.Sequences.{Sequence, and_then, with_first, level, sequences}
 use Rattle.theory_spec.specs.How.Indices.{index_from}
-use Rattle.theory_spec.proofs.ListLaws.{here, same_test}
+use Rattle.theory_spec.proofs.ListLaws.{same_test}
 use Rattle.theory_spec.proofs.TestLaws.{equal?}
-use Rattle.theory_spec.proofs.SequenceLaws.{of-with_first, of-level, of-sequences}
 use Rattle.model_spec.specs.States.{State, applicable, successor}
 use Rattle.model_spec.specs.Rules.{no_rule, rule_at, step_of, rule_cost, run_in, sequence_cost}
 use Rattle.model_spec.specs.declared.Rule.{Rule}
@@ -25,73 +26,59 @@ use Rattle.model_spec.specs.declared.RuleSet.{RuleSet}
 use Rattle.macros_spec.specs.Composition.{Lines}
 use Rattle.macros_spec.specs.Redundancy.{ends_in, covers}
 use Rattle.model_spec.proofs.LoopLaws.{rules_left}
-use Rattle.tables_spec.specs.Table.{sequence_count, kept}
-use Rattle.tables_laws.specs.How.Witnesses.{first_behind, serves, first_witness}
-use Rattle.tables_spec.proofs.CountLaws.{behind_bound, count_bound}
+use Rattle.tables_spec.specs.Table.{kept}
+use Rattle.tables_laws.specs.How.Witnesses.{first_behind, serves}
+use Rattle.tables_laws.specs.How.Searches.{find_behind, find_witness}
 
 -- ── The first in joined lists ────────────────────────────────────────────────────────────────────
 
 module _ (m i : ℕ) (test : Sequence → Bool) where
-  -- it is the first list's, where that has one
-  first_found : (l l' : List Sequence) → first_behind m i test l ≢ kept
-      → first_behind m i test (l ++ l') ≡ first_behind m i test l
-  first_found [] l' h = absurd (h refl)
-  first_found (q ∷ l) l' h = go (test q) h (first_found l l')
+  -- it is the first list's, where that has one, else the second's
+  find-joined : (l l' : List Sequence)
+      → find_behind m i test (l ++ l') ≡ option_or (find_behind m i test l) (find_behind m i test l')
+  find-joined [] l' = refl
+  find-joined (q ∷ l) l' = go (test q) (find-joined l l')
     where
-      go : (b : Bool) → cond b (index_from m i q) (first_behind m i test l) ≢ kept
-          → (first_behind m i test l ≢ kept → first_behind m i test (l ++ l') ≡ first_behind m i test l)
-          → cond b (index_from m i q) (first_behind m i test (l ++ l'))
-          ≡ cond b (index_from m i q) (first_behind m i test l)
-      go true k ih = refl
-      go false k ih = ih k
-
-  -- else the second's
-  first-later : (l l' : List Sequence) → ((q : Sequence) → q ∈ l → index_from m i q ≢ kept)
-      → first_behind m i test l ≡ kept → first_behind m i test (l ++ l') ≡ first_behind m i test l'
-  first-later [] l' fits e = refl
-  first-later (q ∷ l) l' fits e = go (test q) e (first-later l l' (λ p d. fits p (Memᴰ.tail d)))
-    where
-      go : (b : Bool) → cond b (index_from m i q) (first_behind m i test l) ≡ kept
-          → (first_behind m i test l ≡ kept → first_behind m i test (l ++ l') ≡ first_behind m i test l')
-          → cond b (index_from m i q) (first_behind m i test (l ++ l')) ≡ first_behind m i test l'
-      go true k ih = absurd (fits q (here q l) k)
-      go false k ih = ih k
+      go : (b : Bool)
+          → find_behind m i test (l ++ l') ≡ option_or (find_behind m i test l) (find_behind m i test l')
+          → cond b (Some (index_from m i q)) (find_behind m i test (l ++ l'))
+          ≡ option_or (cond b (Some (index_from m i q)) (find_behind m i test l)) (find_behind m i test l')
+      go true e = refl
+      go false e = e
 
   -- of sequences with the same first rule none passes
-  first_skips : (r : ℕ) (l l' : List Sequence) → ((q : Sequence) → test (r ∷ q) ≡ false)
-      → first_behind m i test (with_first l r ++ l') ≡ first_behind m i test l'
-  first_skips r [] l' h = refl
-  first_skips r (q ∷ l) l' h = rw (h q) (first_skips r l l' h)
+  find_skips : (r : ℕ) (l l' : List Sequence) → ((q : Sequence) → test (r ∷ q) ≡ false)
+      → find_behind m i test (with_first l r ++ l') ≡ find_behind m i test l'
+  find_skips r [] l' h = refl
+  find_skips r (q ∷ l) l' h = rw (h q) (find_skips r l l' h)
 
   -- sequences with the same first rule: the search goes on behind it
-  first-behind : (r : ℕ) (l : List Sequence)
-      → first_behind m i test (with_first l r) ≡ first_behind m (i * m + r) (λ q. test (r ∷ q)) l
-  first-behind r [] = refl
-  first-behind r (q ∷ l) = ap (λ n. cond (test (r ∷ q)) (index_from m (i * m + r) q) n) (first-behind r l)
+  find-onward : (r : ℕ) (l : List Sequence)
+      → find_behind m i test (with_first l r) ≡ find_behind m (i * m + r) (λ q. test (r ∷ q)) l
+  find-onward r [] = refl
+  find-onward r (q ∷ l) = ap (cond (test (r ∷ q)) (Some (index_from m (i * m + r) q))) (find-onward r l)
 
--- ── No index is 65535 ────────────────────────────────────────────────────────────────────────────
-
-module _ (m : ℕ) (few : m ≤ 31) where
-  -- behind a sequence of n rules, with at most 3 rules in all
-  index-fits : (n i : ℕ) (q : Sequence) → i < sequence_count m n → Numbered m q → n + length q ≤ 3
-      → index_from m i q ≢ kept
-  index-fits n i [] h k short e = let b = count_bound m n few (omega arith) in omega arith
-  index-fits n i (r ∷ q) h k short f =
-      let e : i * m + (r - 1 + 1) ≡ i * m + r = omega (arith, k.0) in
-      let b : i * m + (r - 1 + 1) < sequence_count m (suc n) =
-      behind_bound m n i (r - 1) h (omega (arith, k.0, k.1)) in
-      index-fits (suc n) (i * m + r) q (omega arith) k.2 (omega arith) f
+  -- by the index, or 65535 where there is none
+  pub found-index : (l : List Sequence) → unwrap_or (find_behind m i test l) kept ≡ first_behind m i test l
+  found-index [] = refl
+  found-index (q ∷ l) = go (test q) (found-index l)
+    where
+      go : (b : Bool) → unwrap_or (find_behind m i test l) kept ≡ first_behind m i test l
+          → unwrap_or (cond b (Some (index_from m i q)) (find_behind m i test l)) kept
+          ≡ cond b (index_from m i q) (first_behind m i test l)
+      go true e = refl
+      go false e = e
 
 -- ── Sets that are searched ───────────────────────────────────────────────────────────────────────
 
-module _ (set : RuleSet) (i : ℕ) (b : Option Lines) (cost : ℕ) (among : List Sequence) where
+module _ (set : RuleSet) (i : ℕ) (b : Math.Option Lines) (cost : ℕ) (among : List Sequence) where
   pub witness-searched : set.count ≤ 31
-      → first_witness set i b cost among ≡ first_behind set.count i (serves set b cost) among
-  unfolding first_witness
+      → find_witness set i b cost among ≡ find_behind set.count i (serves set b cost) among
+  unfolding find_witness
   witness-searched few = rw (le-leb set.count 31 few)
 
-  pub witness_unsearched : 31 < set.count → first_witness set i b cost among ≡ kept
-  unfolding first_witness
+  pub witness_unsearched : 31 < set.count → find_witness set i b cost among ≡ None
+  unfolding find_witness
   witness_unsearched many = rw (lt-leb set.count 31 many)
 
 -- ── One more rule in front ───────────────────────────────────────────────────────────────────────
@@ -103,7 +90,7 @@ leb-sub a b n h =
     (λ e. let l = leb-true b (n - a) e in le-leb (a + b) n (omega arith))
 
 -- a rule of cost a has to run for at most `left`, and the others, of cost b, to lead on from where it leads
-paid : (a b left : ℕ) (runs : Bool) (t : State) (f : State → Option State) (target : List ℕ)
+paid : (a b left : ℕ) (runs : Bool) (t : State) (f : State → Math.Option State) (target : List ℕ)
     → (leb (a + b) left && ends_in (and_then (only_if runs t) f) target)
     ≡ ((leb a left && runs) && (leb b (left - a) && ends_in (f t) target))
 paid a b left false t f target = rw (and-false (leb (a + b) left), and-false (leb a left))
@@ -115,7 +102,7 @@ paid a b left true t f target = go (leb a left) refl
     go false e = ap (λ c. c && ends_in (f t) target) (let l = leb-false a left e in lt-leb (a + b) left (omega arith))
 
 -- the vectors of a search from the entries to the target
-abbrev aim : List ℕ → List ℕ → Option Lines
+abbrev aim : List ℕ → List ℕ → Math.Option Lines
 aim entries target = some (record { condition = entries; effect = target })
 
 -- a sequence leads to the target where its first rule runs and the others lead on from there
@@ -153,8 +140,8 @@ module _ (set : RuleSet) (entries target : List ℕ) (left index n : ℕ) where
   test = serves set (aim entries target) left
 
   -- the first witness, of one rule more than n, that begins with the rule at place k or a later one
-  pub from_rule : ℕ → ℕ
-  from_rule k = first_behind m index test (flat (with_first (level m n)) (numbers_from (k + 1) (m - k)))
+  pub from_rule : ℕ → Option ℕ
+  from_rule k = find_behind m index test (flat (with_first (level m n)) (numbers_from (k + 1) (m - k)))
 
   -- the rule at place k runs on the entries, for at most `left`
   abbrev pub runs_here : ℕ → Bool
@@ -165,64 +152,55 @@ module _ (set : RuleSet) (entries target : List ℕ) (left index n : ℕ) where
   onward k = serves set (aim (successor (placed set k).effect entries) target) (left - (placed set k).cost)
 
   -- the first witness that begins with the rule at place k, where that runs
-  abbrev pub through_rule : ℕ → ℕ
-  through_rule k = first_behind m (index * m + (k + 1)) (onward k) (level m n)
+  abbrev pub through_rule : ℕ → Option ℕ
+  through_rule k = find_behind m (index * m + (k + 1)) (onward k) (level m n)
 
   -- before the loop, and before that of `with_one_more`
   pub from_first : (more : ℕ) → more ≡ suc n
-      → from_rule 0 ≡ first_behind m index (serves set (some (record { condition = entries; effect = target })) left)
+      → from_rule 0 ≡ find_behind m index (serves set (some (record { condition = entries; effect = target })) left)
       (level m more)
   unfolding from_rule
   from_first more e = let f : m - 0 ≡ m = omega arith in rw (e, f)
 
   -- after the loop, and after that of `with_one_more`
-  pub from_end : (k : ℕ) → m ≤ k → from_rule k ≡ kept
+  pub from_end : (k : ℕ) → m ≤ k → from_rule k ≡ None
   unfolding from_rule
   from_end k h = let e : m - k ≡ 0 = omega arith in rw e
 
   module _ (k : ℕ) (h : k < m) where
     -- the sequences that begin with the rule at place k, and then those that begin with a later one
-    parted : from_rule k ≡ first_behind m index test
+    parted : from_rule k ≡ find_behind m index test
         (with_first (level m n) (k + 1) ++ flat (with_first (level m n)) (numbers_from (k + 1 + 1) (m - (k + 1))))
     unfolding from_rule
-    parted = ap (λ l. first_behind m index test (flat (with_first (level m n)) l)) (rules_left k m h)
+    parted = ap (λ l. find_behind m index test (flat (with_first (level m n)) l)) (rules_left k m h)
 
     -- what a sequence that begins with the rule at place k leads to
     begun : {b : Bool} → runs_here k ≡ b → (q : Sequence) → test ((k + 1) ∷ q) ≡ (b && onward k q)
     begun t q =
         serves_next set entries left target (placed set k) (k + 1) (placed-number set k) q ∙ ap (λ b. b && onward k q) t
 
-    -- the first witness of those, where the rule runs
-    through : runs_here k ≡ true → first_behind m index test (with_first (level m n) (k + 1)) ≡ through_rule k
-    through t =
-        first-behind m index test (k + 1) (level m n)
-        ∙ ap (λ p. first_behind m (index * m + (k + 1)) p (level m n)) (fun_ext (begun t))
-
     -- a turn whose rule does not run
     pub from_next : runs_here k ≡ false → from_rule (k + 1) ≡ from_rule k
     unfolding from_rule
-    from_next t = sym (parted ∙ first_skips m index test (k + 1) (level m n) _ (begun t))
+    from_next t = sym (parted ∙ find_skips m index test (k + 1) (level m n) _ (begun t))
 
-    -- a turn whose rule runs, and whose search finds nothing; the index has room for the rules to come
-    pub from_through : m ≤ 31 → (before : ℕ) → index < sequence_count m before → before + suc n ≤ 3 → runs_here k ≡ true
-        → through_rule k ≡ kept → from_rule (k + 1) ≡ from_rule k
+    -- a turn whose rule runs: what is found behind it, else what is found later
+    through : runs_here k ≡ true → from_rule k ≡ option_or (through_rule k) (from_rule (k + 1))
     unfolding from_rule
-    from_through few before room near t e =
-        sym (parted ∙ first-later m index test (with_first (level m n) (k + 1)) _ fits (through t ∙ e))
-      where
-        fits : (q : Sequence) → q ∈ with_first (level m n) (k + 1) → index_from m index q ≢ kept
-        fits q d =
-            let w = of-with_first (level m n) (k + 1) d in
-            let v = of-level m n w.1 in
-            subst (λ p. index_from m index p ≢ kept) w.2
-            (index-fits m few before index ((k + 1) ∷ w.0) room (omega arith, omega arith, v.1)
-            (omega (arith, v.0)))
+    through t =
+        parted ∙ find-joined m index test (with_first (level m n) (k + 1)) _
+        ∙ ap (λ o. option_or o (from_rule (k + 1)))
+        (find-onward m index test (k + 1) (level m n)
+        ∙ ap (λ p. find_behind m (index * m + (k + 1)) p (level m n)) (fun_ext (begun t)))
 
-    -- a turn whose rule runs, and whose search finds a witness
-    pub from_found : runs_here k ≡ true → through_rule k ≢ kept → through_rule k ≡ from_rule k
-    from_found t f =
-        sym (parted ∙ first_found m index test (with_first (level m n) (k + 1)) _ (λ e. f (sym (through t) ∙ e))
-        ∙ through t)
+    module _ (found : Option ℕ) (is : found ≡ through_rule k) (t : runs_here k ≡ true) where
+      -- it finds nothing behind it
+      pub from_through : found ≡ None → from_rule (k + 1) ≡ from_rule k
+      from_through e = sym (through t ∙ ap (λ o. option_or o (from_rule (k + 1))) (sym is ∙ e))
+
+      -- it finds a witness
+      pub from_found : (i : ℕ) → found ≡ Some i → Some i ≡ from_rule k
+      from_found i e = sym (through t ∙ ap (λ o. option_or o (from_rule (k + 1))) (sym is ∙ e))
 
 -- ── The loop over the last rules of `with_one_more` ──────────────────────────────────────────────
 
@@ -248,62 +226,61 @@ module _ (set : RuleSet) (entries target : List ℕ) (left index k : ℕ) (h : k
   last_next t = sym (parted set entries target left index 0 k h ∙ rw (tested t))
 
   -- a turn whose rule does
-  pub last_found : finishes ≡ true → index * set.count + (k + 1) ≡ from_rule set entries target left index 0 k
-  last_found t = sym (parted set entries target left index 0 k h ∙ rw (tested t))
+  pub last_found : finishes ≡ true → (i : ℕ) → i ≡ index * set.count + (k + 1)
+      → Some i ≡ from_rule set entries target left index 0 k
+  last_found t i e = rw e (sym (parted set entries target left index 0 k h ∙ rw (tested t)))
 
 -- ── The loop over the lengths of `smallest_witness` ──────────────────────────────────────────────
 
 module _ (m : ℕ) (test : Sequence → Bool) where
   -- the first witness of at most n rules
-  pub up_to : ℕ → ℕ
-  up_to n = first_behind m 0 test (sequences m n)
+  pub up_to : ℕ → Option ℕ
+  up_to n = find_behind m 0 test (sequences m n)
 
   -- the empty sequence is the first of all: no loop
-  pub empty-found : test [] ≡ true → 0 ≡ first_behind m 0 test (sequences m 3)
+  pub empty-found : test [] ≡ true → Some 0 ≡ find_behind m 0 test (sequences m 3)
   empty-found t = sym (rw t)
 
   -- before the loop
-  pub empty_next : test [] ≡ false → up_to (1 - 1) ≡ kept
+  pub empty_next : test [] ≡ false → up_to (1 - 1) ≡ None
   unfolding up_to
   empty_next t = rw t
 
   -- after the loop
-  pub lengths-end : (more : ℕ) → 3 < more → more ≤ 4 → up_to (more - 1) ≡ kept
-      → kept ≡ first_behind m 0 test (sequences m 3)
+  pub lengths-end : up_to (4 - 1) ≡ None → None ≡ find_behind m 0 test (sequences m 3)
   unfolding up_to
-  lengths-end more h k none = let e : more - 1 ≡ 3 = omega arith in sym (ap up_to (sym e) ∙ none)
+  lengths-end none = sym none
 
   -- what is found among shorter sequences is found among all
-  longer-found : (n k : ℕ) → n ≤ k → up_to n ≢ kept → up_to k ≡ up_to n
+  longer-found : (n k x : ℕ) → n ≤ k → up_to n ≡ Some x → up_to k ≡ Some x
   unfolding up_to
-  longer-found n zero h f = let e : 0 ≡ n = omega arith in ap up_to e
-  longer-found n (suc k) h f =
-      ⊎_elim (λ e. ap up_to (sym e)) (λ e. shorter (longer-found n k (omega arith) f)) (equal? n (suc k))
+  longer-found n zero x h f = let e : 0 ≡ n = omega arith in ap up_to e ∙ f
+  longer-found n (suc k) x h f =
+      ⊎_elim (λ e. ap up_to (sym e) ∙ f) (λ e. shorter (longer-found n k x (omega arith) f)) (equal? n (suc k))
     where
-      shorter : up_to k ≡ up_to n → up_to (suc k) ≡ up_to n
-      shorter e = first_found m 0 test (sequences m k) (level m (suc k)) (λ g. f (sym e ∙ g)) ∙ e
+      shorter : up_to k ≡ Some x → up_to (suc k) ≡ Some x
+      shorter e =
+          find-joined m 0 test (sequences m k) (level m (suc k))
+          ∙ ap (λ o. option_or o (find_behind m 0 test (level m (suc k)))) e
 
-  module _ (few : m ≤ 31) (more : ℕ) (low : 1 ≤ more) (high : more ≤ 3) (none : up_to (more - 1) ≡ kept) where
+  module _ (more : ℕ) (low : 1 ≤ more) (high : more ≤ 3) (none : up_to (more - 1) ≡ None) where
     -- where shorter sequences have none, the first is among those of `more` rules
-    longer : up_to more ≡ first_behind m 0 test (level m more)
+    longer : up_to more ≡ find_behind m 0 test (level m more)
     unfolding up_to
     longer =
-        subst (λ j. up_to j ≡ first_behind m 0 test (level m j)) next
-        (first-later m 0 test (sequences m (more - 1)) (level m (suc (more - 1))) fits none)
+        subst (λ j. up_to j ≡ find_behind m 0 test (level m j)) next
+        (find-joined m 0 test (sequences m (more - 1)) (level m (suc (more - 1)))
+        ∙ ap (λ o. option_or o (find_behind m 0 test (level m (suc (more - 1))))) none)
       where
         next : suc (more - 1) ≡ more
         next = omega arith
 
-        fits : (q : Sequence) → q ∈ sequences m (more - 1) → index_from m 0 q ≢ kept
-        fits q d =
-            let w = of-sequences m (more - 1) d in index-fits m few 0 0 q (omega arith) w.1 (omega (arith, w.0))
-
-    module _ (found : ℕ) (is : found ≡ first_behind m 0 test (level m more)) where
+    module _ (found : Option ℕ) (is : found ≡ find_behind m 0 test (level m more)) where
       -- a turn that finds nothing
-      pub lengths_next : found ≡ kept → up_to (more + 1 - 1) ≡ kept
+      pub lengths_next : found ≡ None → up_to (more + 1 - 1) ≡ None
       lengths_next f = let e : more + 1 - 1 ≡ more = omega arith in ap up_to e ∙ longer ∙ sym is ∙ f
 
       -- a turn that finds a witness
-      pub lengths-found : found ≢ kept → found ≡ first_behind m 0 test (sequences m 3)
+      pub lengths-found : (i : ℕ) → found ≡ Some i → Some i ≡ find_behind m 0 test (sequences m 3)
       unfolding up_to
-      lengths-found f = let e = longer ∙ sym is in sym (longer-found more 3 high (λ n. f (sym e ∙ n)) ∙ e)
+      lengths-found i f = sym (longer-found more 3 i high (longer ∙ sym is ∙ f))

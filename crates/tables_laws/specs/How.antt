@@ -1,3 +1,4 @@
 pub mod Witnesses
 pub mod ShortSequences
 pub mod Outcomes
+pub mod Searches

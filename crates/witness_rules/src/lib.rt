@@ -7,11 +7,10 @@ ghost use Rattle.std.proofs.Math.Option.{some};
 ghost use Rattle.theory_spec.specs.Lists.{same};
 ghost use Rattle.theory_spec.specs.Sequences.{level};
 ghost use Rattle.model_spec.specs.States.{applicable, successor};
-ghost use Rattle.tables_laws.specs.How.Witnesses.{first_witness};
+ghost use Rattle.tables_laws.specs.How.Searches.{find_witness};
 
 use model_spec::{MAX_RULES, PLACE_COUNT, Rule, RuleSet};
 use states::{runs, value};
-use tables::KEPT;
 
 // The index of a sequence with one more rule.
 pub fn index_behind(index: u16, count: u8, number: u8) -> usize
@@ -24,12 +23,7 @@ pub fn index_behind(index: u16, count: u8, number: u8) -> usize
 pub fn goes_on(rule: Rule, entries: &[u8; PLACE_COUNT], left: u16) -> bool
     ensures { result ≡ (leb rule.cost left && applicable rule.condition entries.now) }
 {
-    let cost = rule.cost as u16;
-    if left < cost {
-        return false;
-    }
-    let condition = rule.condition;
-    runs(&condition, entries)
+    rule.cost as u16 <= left && runs(&rule.condition, entries)
 }
 
 // Whether an effect leads from these entries to the target. It ends at the first place that differs.
@@ -40,14 +34,10 @@ fn leads_to(
 ) -> bool
     ensures { result ≡ same (successor effect.now entries.now) target.now }
 {
-    let each: &[u8] = effect;
-    let asked: &[u8] = target;
-    let mut i: usize = 0;
-    while i < PLACE_COUNT {
-        if value(each[i], entries) != asked[i] {
+    for i in 0..PLACE_COUNT {
+        if value(effect[i], entries) != target[i] {
             return false;
         }
-        i += 1;
     }
     true
 }
@@ -58,36 +48,29 @@ fn finishes(rule: Rule, entries: &[u8; PLACE_COUNT], left: u16, target: &[u8; PL
         && (applicable rule.condition entries.now
         && same (successor rule.effect entries.now) target.now)) }
 {
-    let effect = rule.effect;
-    if !leads_to(&effect, entries, target) {
-        return false;
-    }
-    goes_on(rule, entries, left)
+    leads_to(&rule.effect, entries, target) && goes_on(rule, entries, left)
 }
 
 // Behind the sequence of `index`, which has led to these entries and left so much to spend: the index of the first
-// sequence with one more rule that leads to the target; 65535 if none does,
-// and for a set of more than 31 rules.
+// sequence with one more rule that leads to the target, if one does; none for a set of more than 31 rules.
 pub fn with_one_more(
     set: RuleSet,
     index: u16,
     entries: &[u8; PLACE_COUNT],
     left: u16,
     target: &[u8; PLACE_COUNT],
-) -> usize
+) -> Option<usize>
     ensures { let lines = some (record { condition = entries.now; effect = target.now }) in
-        result ≡ first_witness set index lines left (level set.count 1) }
+        result ≡ find_witness set index lines left (level set.count 1) }
 {
     if MAX_RULES < set.count {
-        return KEPT;
+        return None;
     }
-    let mut k: u8 = 0;
-    while k < set.count {
+    for k in 0..set.count {
         let rule = set.rules[k as usize];
         if finishes(rule, entries, left, target) {
-            return index_behind(index, set.count, k + 1);
+            return Some(index_behind(index, set.count, k + 1));
         }
-        k += 1;
     }
-    KEPT
+    None
 }

@@ -4,7 +4,6 @@ use Rattle.std.specs.Prelude.{Bool, cond, ◌&&◌, List, [], ◌∷◌, ℕ, le
 use Rattle.std.proofs.Math.Option.{Option}
 use Rattle.theory_spec.specs.Sequences.{Sequence}
 use Rattle.theory_spec.specs.How.Indices.{index_from}
-use Rattle.model_spec.specs.Limits.{max_rules}
 use Rattle.model_spec.specs.Rules.{sequence_cost}
 use Rattle.model_spec.specs.declared.RuleSet.{RuleSet}
 use Rattle.macros_spec.specs.Composition.{Lines}
@@ -21,9 +20,3 @@ first_behind m i test (q ∷ later) = cond (test q) (index_from m i q) (first_be
 -- rules run in turn on the condition, as on a state of entries, and end in the effect
 unfoldable pub serves : RuleSet → Option Lines → ℕ → Sequence → Bool
 serves set b cost a = leb (sequence_cost set a) cost && covers set a b
-
--- the first witness of a sequence with these vectors and this cost, among sequences behind one of index i, by its
--- index; 65535 if there is none. A set of more than 31 rules is not searched
-unfoldable pub first_witness : RuleSet → ℕ → Option Lines → ℕ → List Sequence → ℕ
-first_witness set i b cost among =
-    cond (leb set.count max_rules) (first_behind set.count i (serves set b cost) among) kept

@@ -2,7 +2,6 @@
 -- on decides the whole.
 use mathlib.Core.Path.{◌≡◌}
 use mathlib.Core.List.{map}
-use Prim.Native.Nat.{◌≤◌, ◌-◌}
 use lib.ListN.{drop}
 use Rattle.theory_spec.specs.Lists.{same}
 use Rattle.model_spec.specs.States.{value_of, successor}
@@ -10,9 +9,5 @@ use Rattle.witness_rules.proofs.leads_to.Given as goal
 
 abbrev pub invariant-loop-i : goal.invariant-loop-i
 invariant-loop-i l =
-    (l.i ≤ 16)
-    × (same (map (λ e. value_of e l.entries) (drop l.i l.effect)) (drop l.i l.target)
-    ≡ same (successor l.effect l.entries) l.target)
-
-abbrev pub decreases-loop-i : goal.decreases-loop-i
-decreases-loop-i l = 16 - l.i
+    same (map (λ e. value_of e l.entries) (drop l.i l.effect)) (drop l.i l.target)
+    ≡ same (successor l.effect l.entries) l.target

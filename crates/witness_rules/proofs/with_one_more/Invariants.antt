@@ -2,19 +2,14 @@
 -- is found of all.
 use mathlib.Core.Path.{◌≡◌}
 use mathlib.Core.Option.{Option, some}
-use Prim.Native.Nat.{◌≤◌, ◌-◌}
 use Rattle.theory_spec.specs.Sequences.{level}
 use Rattle.macros_spec.specs.Composition.{Lines}
-use Rattle.tables_laws.specs.How.Witnesses.{first_witness}
+use Rattle.tables_laws.specs.How.Searches.{find_witness}
 use Rattle.tables_laws.proofs.WitnessLaws.{from_rule}
 use Rattle.witness_rules.proofs.with_one_more.Given as goal
 
 abbrev pub invariant-loop-k : goal.invariant-loop-k
 invariant-loop-k l =
     let lines : Option Lines = some (record { condition = l.entries; effect = l.target }) in
-    (l.k ≤ l.set.count)
-    × (from_rule l.set l.entries l.target l.left l.index 0 l.k
-    ≡ first_witness l.set l.index lines l.left (level l.set.count 1))
-
-abbrev pub decreases-loop-k : goal.decreases-loop-k
-decreases-loop-k l = l.set.count - l.k
+    from_rule l.set l.entries l.target l.left l.index 0 l.k
+    ≡ find_witness l.set l.index lines l.left (level l.set.count 1)
