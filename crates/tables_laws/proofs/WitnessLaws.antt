@@ -3,7 +3,7 @@
 -- Assumes nothing.
 use mathlib.Core.Path.{◌≡◌, refl, sym, ap, ◌∙◌, subst, fun_ext}
 use mathlib.Core.Logic.{⊎_elim}
-use mathlib.Core.Bool.{Bool, true, false, cond, ◌&&◌, and-false, and_assoc}
+use mathlib.Core.Bool.{true≢false, Bool, true, false, cond, ◌&&◌, and-false, and_assoc}
 use mathlib.Core.Option as Math
 use mathlib.Core.Option.{some}
 use mathlib.Core.List.{List, [], ◌∷◌, ◌++◌}
@@ -13,7 +13,7 @@ use lib.Dec.{leb}
 use lib.ListN.{get_or}
 use borrow.Author.Tests.{leb-true, leb-false, le-leb, lt-leb}
 use Rattle.std.specs.Option.{option_or}
-use Rattle.std.specs.Prelude.{Option, None, Some, unwrap_or}
+use Rattle.std.specs.Prelude.{Option, None, Some, unwrap_or, is_some}
 use Rattle.theory_spec.specs.Lists.{only_if, flat, numbers_from, same}
 use Rattle.theory_spec.specs.Sequences.{Sequence, and_then, with_first, level, sequences}
 use Rattle.theory_spec.specs.How.Indices.{index_from}
@@ -29,6 +29,20 @@ use Rattle.model_spec.proofs.LoopLaws.{rules_left}
 use Rattle.tables_spec.specs.Table.{kept}
 use Rattle.tables_laws.specs.How.Witnesses.{first_behind, serves}
 use Rattle.tables_laws.specs.How.Searches.{find_behind, find_witness}
+
+-- ── What is found, or else ───────────────────────────────────────────────────────────────────────
+
+first-taken : (o p : Option ℕ) → is_some o ≡ true → option_or o p ≡ o
+first-taken None p e = absurd (true≢false (sym e))
+first-taken (Some i) p e = refl
+
+second-tried : (o p : Option ℕ) → is_some o ≡ false → option_or o p ≡ p
+second-tried None p e = refl
+second-tried (Some i) p e = absurd (true≢false e)
+
+nothing : (o : Option ℕ) → is_some o ≡ false → o ≡ None
+nothing None e = refl
+nothing (Some i) e = absurd (true≢false e)
 
 -- ── The first in joined lists ────────────────────────────────────────────────────────────────────
 
@@ -194,13 +208,16 @@ module _ (set : RuleSet) (entries target : List ℕ) (left index n : ℕ) where
         ∙ ap (λ p. find_behind m (index * m + (k + 1)) p (level m n)) (fun_ext (begun t)))
 
     module _ (found : Option ℕ) (is : found ≡ through_rule k) (t : runs_here k ≡ true) where
+      begun-found : from_rule k ≡ option_or found (from_rule (k + 1))
+      begun-found = through t ∙ ap (λ o. option_or o (from_rule (k + 1))) (sym is)
+
       -- it finds nothing behind it
-      pub from_through : found ≡ None → from_rule (k + 1) ≡ from_rule k
-      from_through e = sym (through t ∙ ap (λ o. option_or o (from_rule (k + 1))) (sym is ∙ e))
+      pub from_through : is_some found ≡ false → from_rule (k + 1) ≡ from_rule k
+      from_through e = sym (begun-found ∙ second-tried found (from_rule (k + 1)) e)
 
       -- it finds a witness
-      pub from_found : (i : ℕ) → found ≡ Some i → Some i ≡ from_rule k
-      from_found i e = sym (through t ∙ ap (λ o. option_or o (from_rule (k + 1))) (sym is ∙ e))
+      pub from_found : is_some found ≡ true → found ≡ from_rule k
+      from_found e = sym (begun-found ∙ first-taken found (from_rule (k + 1)) e)
 
 -- ── The loop over the last rules of `with_one_more` ──────────────────────────────────────────────
 
@@ -247,21 +264,22 @@ module _ (m : ℕ) (test : Sequence → Bool) where
   empty_next t = rw t
 
   -- after the loop
-  pub lengths-end : up_to (4 - 1) ≡ None → None ≡ find_behind m 0 test (sequences m 3)
+  pub lengths-end : (more : ℕ) → more ≡ 4 → up_to (more - 1) ≡ None → None ≡ find_behind m 0 test (sequences m 3)
   unfolding up_to
-  lengths-end none = sym none
+  lengths-end more e none = sym (ap (λ n. up_to (n - 1)) (sym e) ∙ none)
 
   -- what is found among shorter sequences is found among all
-  longer-found : (n k x : ℕ) → n ≤ k → up_to n ≡ Some x → up_to k ≡ Some x
+  longer-found : (n k : ℕ) → n ≤ k → is_some (up_to n) ≡ true → up_to k ≡ up_to n
   unfolding up_to
-  longer-found n zero x h f = let e : 0 ≡ n = omega arith in ap up_to e ∙ f
-  longer-found n (suc k) x h f =
-      ⊎_elim (λ e. ap up_to (sym e) ∙ f) (λ e. shorter (longer-found n k x (omega arith) f)) (equal? n (suc k))
+  longer-found n zero h f = let e : 0 ≡ n = omega arith in ap up_to e
+  longer-found n (suc k) h f =
+      ⊎_elim (λ e. ap up_to (sym e)) (λ e. shorter (longer-found n k (omega arith) f)) (equal? n (suc k))
     where
-      shorter : up_to k ≡ Some x → up_to (suc k) ≡ Some x
+      shorter : up_to k ≡ up_to n → up_to (suc k) ≡ up_to n
       shorter e =
           find-joined m 0 test (sequences m k) (level m (suc k))
-          ∙ ap (λ o. option_or o (find_behind m 0 test (level m (suc k)))) e
+          ∙ first-taken (up_to k) _ (ap is_some e ∙ f)
+          ∙ e
 
   module _ (more : ℕ) (low : 1 ≤ more) (high : more ≤ 3) (none : up_to (more - 1) ≡ None) where
     -- where shorter sequences have none, the first is among those of `more` rules
@@ -277,10 +295,13 @@ module _ (m : ℕ) (test : Sequence → Bool) where
 
     module _ (found : Option ℕ) (is : found ≡ find_behind m 0 test (level m more)) where
       -- a turn that finds nothing
-      pub lengths_next : found ≡ None → up_to (more + 1 - 1) ≡ None
-      lengths_next f = let e : more + 1 - 1 ≡ more = omega arith in ap up_to e ∙ longer ∙ sym is ∙ f
+      pub lengths_next : is_some found ≡ false → up_to (more + 1 - 1) ≡ None
+      lengths_next f =
+          let e : more + 1 - 1 ≡ more = omega arith in
+          ap up_to e ∙ longer ∙ sym is ∙ nothing found f
 
       -- a turn that finds a witness
-      pub lengths-found : (i : ℕ) → found ≡ Some i → Some i ≡ find_behind m 0 test (sequences m 3)
+      pub lengths-found : is_some found ≡ true → found ≡ find_behind m 0 test (sequences m 3)
       unfolding up_to
-      lengths-found i f = sym (longer-found more 3 i high (longer ∙ sym is ∙ f))
+      lengths-found f =
+          let e = longer ∙ sym is in sym (longer-found more 3 high (ap is_some e ∙ f) ∙ e)

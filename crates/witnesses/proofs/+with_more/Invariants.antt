@@ -2,10 +2,11 @@
 -- The invariant: the first witness that begins with the rule at place k or a later one is the first of all.
 use mathlib.Core.Path.{◌≡◌}
 use mathlib.Core.Option.{Option, some}
-use Prim.Native.Nat.{◌-◌, ◌≤◌}
+use Prim.Native.Nat.{◌-◌}
 use Rattle.theory_spec.specs.Sequences.{level}
 use Rattle.macros_spec.specs.Composition.{Lines}
-use Rattle.tables_laws.specs.How.Witnesses.{first_behind, serves}
+use Rattle.tables_laws.specs.How.Witnesses.{serves}
+use Rattle.tables_laws.specs.How.Searches.{find_behind}
 use Rattle.tables_laws.proofs.WitnessLaws.{from_rule}
 use Rattle.witnesses.proofs.+with_more.Given as goal
 
@@ -16,9 +17,5 @@ decreases-with_more l = l.more
 abbrev pub invariant-loop-k : goal.invariant-loop-k
 invariant-loop-k l =
     let lines : Option Lines = some (record { condition = l.entries; effect = l.target }) in
-    (l.k ≤ l.set.count)
-    × (from_rule l.set l.entries l.target l.left l.index (l.more - 1) l.k
-    ≡ first_behind l.set.count l.index (serves l.set lines l.left) (level l.set.count l.more))
-
-abbrev pub decreases-loop-k : goal.decreases-loop-k
-decreases-loop-k l = l.set.count - l.k
+    from_rule l.set l.entries l.target l.left l.index (l.more - 1) l.k
+    ≡ find_behind l.set.count l.index (serves l.set lines l.left) (level l.set.count l.more)
