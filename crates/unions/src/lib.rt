@@ -1,15 +1,17 @@
 // The positions that the marked sequences of a pruning table read and write, mark by mark; none when refused.
 #![tactic(auto)]
 
-ghost use Rattle.std.specs.Prelude.{◌≡◌, not, cond, ◌&&◌, eqb};
+ghost use Rattle.std.specs.Prelude.{◌≡◌, ◌&&◌, eqb, MatchResult};
 ghost use Rattle.macros_spec.specs.Composition.{lines_of};
+ghost use Rattle.macros_spec.specs.Touched.{untouched};
 ghost use Rattle.macros_spec.specs.How.Touching.{touched_within};
-ghost use Rattle.tables_spec.specs.Table.{kept};
+ghost use Rattle.tables_laws.specs.How.Outcomes.{outcome_of};
 ghost use Rattle.unions_spec.specs.Unions.{refused_table};
 ghost use Rattle.unions_spec.specs.How.United.{united};
 
 use macros_spec::{Touched, Vectors};
-use tables::KEPT;
+use refusals::number_of;
+use refusals_spec::Refusal;
 use touched::touched;
 use unions_spec::TableAnswer;
 
@@ -24,14 +26,25 @@ pub fn refused(outcome: u8) -> TableAnswer
     TableAnswer { outcome, touched }
 }
 
+// What a build or a check gives: the unions that it found, or its refusal.
+pub fn answer(found: Result<Touched, Refusal>) -> TableAnswer
+    ensures outcome { result.outcome ≡ outcome_of found }
+    ensures touched { MatchResult found (λ sets. result.touched ≡ sets) (λ _. result.touched ≡ untouched) }
+{
+    match found {
+        Ok(touched) => TableAnswer {
+            outcome: 0,
+            touched,
+        },
+        Err(refusal) => refused(number_of(refusal)),
+    }
+}
+
 // Whether both unions have all positions of `wide`, so that a mark can add none.
 fn are_full(sets: Touched, wide: u16) -> bool
     ensures { result ≡ (eqb sets.reads wide && eqb sets.writes wide) }
 {
-    if sets.reads != wide {
-        return false;
-    }
-    sets.writes == wide
+    sets.reads == wide && sets.writes == wide
 }
 
 // What either touches, read and written apart.
@@ -44,16 +57,12 @@ fn joined(first: Touched, second: Touched) -> Touched
     }
 }
 
-// Both unions with the entry of one sequence more, of which these are the vectors: as they were where it is kept.
-// Of what the sequence touches the positions of `wide` count; builder and check give those with two values or more.
-// Full unions are left at once: the builder calls this for each entry, the check for each justified mark.
-pub fn with_mark(before: Touched, wide: u16, entry: usize, vectors: Vectors) -> Touched
-    ensures { let own = touched_within wide (lines_of vectors) in
-        result ≡ cond (not (eqb entry kept)) (united before own) before }
+// Both unions with one marked sequence more, of which these are the vectors. Of what it touches the positions of `wide`
+// count; builder and check give those with two values or more. Full unions are left at once: the builder calls this for
+// each mark, the check for each justified one.
+pub fn with_mark(before: Touched, wide: u16, vectors: Vectors) -> Touched
+    ensures { result ≡ united before (touched_within wide (lines_of vectors)) }
 {
-    if entry == KEPT {
-        return before;
-    }
     if are_full(before, wide) {
         return before;
     }
