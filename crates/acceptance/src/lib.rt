@@ -1,65 +1,42 @@
 // Whether a pruning table is accepted, without what its marks read and write: what a search asks of its table.
 #![tactic(auto)]
 
-ghost use Rattle.std.specs.Prelude.{◌≡◌, ◌*◌, ◌≤◌, ◌<◌, length};
-ghost use Rattle.model_spec.specs.Refusals.{first_refusal};
+ghost use Rattle.std.specs.Prelude.{◌≡◌, cond, ◌*◌, ◌≤◌, length};
 ghost use Rattle.model_spec.specs.Validity.{WellFormed};
-ghost use Rattle.tables_spec.specs.Table.{table_entries, entry_justified, accepted};
-ghost use Rattle.tables_spec.specs.Answers.{mark_causes, check_outcome, CheckMeaning};
+ghost use Rattle.tables_spec.specs.Table.{table_entries, accepted};
+ghost use Rattle.tables_spec.specs.Answers.{check_outcome, CheckMeaning};
+ghost use Rattle.tables_laws.specs.How.Outcomes.{outcome_of};
 
-use mark_check::witness_serves;
+use mark_check::mark_at;
 use model_spec::RuleSet;
-use sequences::profile_at;
+use refusals::number_of;
+use refusals_spec::Refusal;
 use table_sizes::shape_refusal;
-use tables::{KEPT, entry_at};
 use validity::is_valid;
 
-// Whether an entry keeps its sequence, or names a smaller index with whose sequence it is redundant.
-fn justified(set: RuleSet, table: &[u8], i: usize) -> bool
-    requires { WellFormed set
-        × (i < table_entries set 3) }
-    ensures { result ≡ entry_justified set 3 table.now i }
-{
-    let entry = entry_at(table, i);
-    if entry == KEPT {
-        return true;
-    }
-    let own = profile_at(set, i);
-    witness_serves(set, own, i, entry)
-}
-
-// Whether every entry is justified. Entry 0 has no smaller index to name, so it has to be 65535. `reach` is for the
-// contract alone: the sequences of a table of a smaller reach are the first ones of reach 3.
-fn is_accepted(set: RuleSet, reach: usize, table: &[u8]) -> bool
+// Checks every entry. Entry 0 has no smaller index to name, so it has to be 65535. `reach` is for the contract alone:
+// the sequences of a table of a smaller reach are the first ones of reach 3.
+fn check_marks(set: RuleSet, reach: usize, table: &[u8]) -> Result<(), Refusal>
     requires { WellFormed set
         × (reach ≤ 3)
         × (length table.now ≡ 2 * table_entries set reach) }
-    ensures { result ≡ accepted set reach table.now }
+    ensures { outcome_of result ≡ cond (accepted set reach table.now) 0 14 }
 {
-    let count = table.len() / 2;
-    let mut i: usize = 0;
-    while i < count {
-        if !justified(set, table, i) {
-            return false;
-        }
-        i += 1;
+    for i in 0..table.len() / 2 {
+        mark_at(set, table, i)?;
     }
-    true
+    Ok(())
 }
 
-// The outcome of the check once the set is judged.
-fn check_for(set: RuleSet, reach: usize, table: &[u8]) -> u8
-    requires { WellFormed set }
-    ensures { result ≡ first_refusal (mark_causes set reach table.now) }
+// Checks a table.
+fn check(set: RuleSet, reach: usize, table: &[u8]) -> Result<(), Refusal>
+    ensures { outcome_of result ≡ check_outcome set reach table.now }
 {
-    let outcome = shape_refusal(set, reach, table.len());
-    if outcome != 0 {
-        return outcome;
+    if !is_valid(set) {
+        return Err(Refusal::RuleSet);
     }
-    if !is_accepted(set, reach, table) {
-        return 14;
-    }
-    0
+    shape_refusal(set, reach, table.len())?;
+    check_marks(set, reach, table)
 }
 
 // The outcome of the check of a table, whoever made it: whether each of its marks is justified.
@@ -67,8 +44,8 @@ pub fn check_outcome(set: RuleSet, reach: usize, table: &[u8]) -> u8
     ensures { (result ≡ check_outcome set reach table.now)
         × CheckMeaning set reach table.now result }
 {
-    if !is_valid(set) {
-        return 7;
+    match check(set, reach, table) {
+        Ok(()) => 0,
+        Err(refusal) => number_of(refusal),
     }
-    check_for(set, reach, table)
 }

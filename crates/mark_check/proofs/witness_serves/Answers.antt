@@ -11,7 +11,7 @@ use Rattle.macros_spec.specs.Composition.{lines_of}
 use Rattle.macros_spec.specs.Redundancy.{redundant_by_lines}
 use Rattle.tables_laws.specs.declared.Profile.{Profile}
 use Rattle.tables_laws.specs.How.ShortSequences.{short_sequence}
-use Rattle.tables_laws.proofs.SequenceLoopLaws.{part_three}
+use Rattle.tables_laws.proofs.SequenceLoopLaws.{part_rest}
 use Rattle.mark_check.proofs.witness_serves.Goals as goal
 
 -- where the index is smaller, the test on the sequence that it names tells
@@ -37,5 +37,5 @@ returns c =
     let s = c.args in
     let at = c.sequence_at-witness in
     smaller s.set s.own s.index s.entry _ _ (omega (arith, c.if-index-entry.false))
-    (part_three at.result.start at.result.rules (omega arith) ∙ at.ensures.1)
+    (part_rest at.result.start at.result.rules ∙ at.ensures.1)
     c.is_redundant.ensures.0
