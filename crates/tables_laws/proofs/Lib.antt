@@ -5,3 +5,4 @@ pub mod TableLoopLaws
 pub mod MarkLaws
 pub mod Shapes
 pub mod OutcomeLaws
+pub mod AnswerLaws
