@@ -5,7 +5,7 @@ ghost use Rattle.std.specs.Prelude.{◌≡◌, length};
 ghost use Rattle.clients_spec.specs.Clients.{client_refusal, client_tallied, UpdateMeaning};
 
 use search_spec::Tally;
-use tally::tallied;
+use tally::update;
 
 // At most so many clients share a list.
 const MAX_CLIENTS: usize = 16;
@@ -14,16 +14,11 @@ const MAX_CLIENTS: usize = 16;
 pub fn client_refusal(count: usize, client: usize) -> u8
     ensures { result ≡ client_refusal count client }
 {
-    if MAX_CLIENTS < count {
-        return 19;
+    if count <= MAX_CLIENTS && 1 <= client && client <= count {
+        0
+    } else {
+        19
     }
-    if client < 1 {
-        return 19;
-    }
-    if count < client {
-        return 19;
-    }
-    0
 }
 
 // One client's tally after a query, in the list that the caller keeps; the others stay. Gives 19, and changes none,
@@ -39,8 +34,6 @@ pub fn update_client(tallies: &mut [Tally], client: usize, outcome: u8, steps: u
     if refusal != 0 {
         return refusal;
     }
-    let place = client - 1;
-    let old = tallies[place];
-    tallies[place] = tallied(old, outcome, steps);
+    update(&mut tallies[client - 1], outcome, steps);
     0
 }

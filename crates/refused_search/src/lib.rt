@@ -4,14 +4,13 @@
 ghost use Rattle.std.specs.Prelude.{◌≡◌, length};
 ghost use Rattle.search_spec.specs.Searched.{refused_search};
 
-use buffers::fill_from;
 use search_spec::{Answer, NO_MOVE};
 
 // The outcome alone, and a blank plan buffer.
 pub fn refused_search(outcome: u8, plan: &mut [u8]) -> Answer
     ensures { refused_search outcome (length plan.old) ≡ record { answer = result; plan = plan.new } }
 {
-    fill_from(plan, 0, NO_MOVE);
+    plan.fill(NO_MOVE);
     Answer {
         outcome,
         cost: 0,

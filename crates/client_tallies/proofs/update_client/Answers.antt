@@ -20,27 +20,17 @@ returns-then-refusal-ne0 c =
     client_updated a.tallies.now a.client a.outcome a.steps _ _ given
     (sym (all_stay a.tallies.now a.client a.outcome a.steps (unlisted _ _ _ given c.if-refusal-ne0.true)))
 
-pub overflow_sub-place : goal.overflow_sub-place
-overflow_sub-place c =
+pub overflow_sub-client : goal.overflow_sub-client
+overflow_sub-client c =
     let l = is_listed_lem _ _ _ c.client_refusal-refusal.ensures c.if-refusal-ne0.false in omega (arith, l.from_one)
 
-pub offset_bounds-tallies-place : goal.offset_bounds-tallies-place
-offset_bounds-tallies-place c =
+pub offset_bounds-tallies-client : goal.offset_bounds-tallies-client
+offset_bounds-tallies-client c =
     let l = is_listed_lem _ _ _ c.client_refusal-refusal.ensures c.if-refusal-ne0.false in
     omega (arith, l.in_list, l.within_limit)
 
-pub slice_copy_out-old : goal.slice_copy_out-old
-slice_copy_out-old c =
-    let l = is_listed_lem _ _ _ c.client_refusal-refusal.ensures c.if-refusal-ne0.false in
-    omega (arith, l.from_one, l.in_list)
-
-pub offset_bounds-tallies-place-2 : goal.offset_bounds-tallies-place-2
-offset_bounds-tallies-place-2 c =
-    let l = is_listed_lem _ _ _ c.client_refusal-refusal.ensures c.if-refusal-ne0.false in
-    omega (arith, l.in_list, l.within_limit)
-
-pub bounds-tallies-place : goal.bounds-tallies-place
-bounds-tallies-place c =
+pub bounds-tallies-client : goal.bounds-tallies-client
+bounds-tallies-client c =
     let l = is_listed_lem _ _ _ c.client_refusal-refusal.ensures c.if-refusal-ne0.false in
     omega (arith, l.from_one, l.in_list)
 
@@ -51,5 +41,5 @@ returns c =
     let zero = c.if-refusal-ne0.false in
     let l = is_listed_lem _ _ _ given zero in
     client_updated a.tallies.now a.client a.outcome a.steps 0 _ (sym zero ∙ given)
-    (ap (set a.tallies.now (a.client - 1)) c.tallied.ensures.0
+    (ap (set a.tallies.now (a.client - 1)) c.update.ensures.0
     ∙ sym (own-set a.tallies.now a.client a.outcome a.steps l))

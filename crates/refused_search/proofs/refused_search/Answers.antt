@@ -1,9 +1,8 @@
--- `refused_search::refused_search` meets its contract: the buffer is filled from its start on.
-use mathlib.Core.Path.{◌≡◌, sym, ◌∙◌}
+-- `refused_search::refused_search` meets its contract: the buffer is filled.
+use mathlib.Core.Path.{◌≡◌, sym}
 use mathlib.Core.List.{List}
 use Prim.Native.Nat.{ℕ}
 use lib.ListN.{length, replicate}
-use Rattle.model_spec.proofs.BufferLaws.{filled-whole}
 use Rattle.search_spec.specs.Searched.{no_move, refused_search}
 use Rattle.refused_search.proofs.refused_search.Goals as goal
 
@@ -17,6 +16,4 @@ blank outcome room plan e = λ i. record {
 }
 
 pub returns : goal.returns
-returns c =
-    let plan = c.args.plan.now in
-    blank _ (length plan) _ (c.fill_from.ensures ∙ filled-whole no_move plan)
+returns c = blank _ (length c.args.plan.now) _ (c.fill.ensures.after (λ y e. e))
