@@ -3,22 +3,20 @@
 #![tactic(auto)]
 
 ghost use Rattle.std.specs.Prelude.{◌≡◌, List, ℕ, ◌≤◌, length};
-ghost use Rattle.theory_spec.specs.Lists.{padded};
 ghost use Rattle.theory_spec.specs.Sequences.{Numbered};
 ghost use Rattle.model_spec.specs.Limits.{place_count, max_rules};
 ghost use Rattle.model_spec.specs.Rules.{sequence_cost};
 ghost use Rattle.search_spec.specs.Query.{asked};
 ghost use Rattle.explain_spec.specs.Explained.{has_reason, bare, plan_for, explained_with, first_reason, explained};
 ghost use Rattle.explain_spec.specs.Meaning.{ProposalPassed, ExplanationMeaning};
-ghost use Rattle.explain_laws.specs.How.Proposals.{comparison_of, reason_of};
-ghost use Rattle.explain_laws.specs.How.LookedUp.{named_witness};
+ghost use Rattle.explain_laws.specs.How.Proposals.{told_of, comparison_of, reason_of};
 
 use answers::plan_part;
-use explain_laws::{Reason, Segment, Witness};
+use explain_laws::Reason;
 use explain_spec::Explanation;
 use model_spec::{MOVE_LIMIT, RuleSet};
 use moves::{cost_of, has_unknown_move};
-use proposals::{costly_move, run_of, same_moves, wrong_position};
+use proposals::{costly_move, run_of, wrong_position};
 use queries::query_refusal;
 use search::search;
 use search_spec::NO_MOVE;
@@ -46,43 +44,67 @@ fn bare(outcome: u8) -> Explanation
 fn has_reason(outcome: u8) -> bool
     ensures { result ≡ has_reason outcome }
 {
-    if outcome == 0 {
-        return true;
-    }
-    outcome == 15
+    outcome == 0 || outcome == 15
 }
 
-// A reason that names no costs.
-fn reason(number: u8, place: usize) -> Reason
-    ensures { result ≡ record { number = number; place = place; cost = 0; plan_cost = 0 } }
+// An outcome beside its reason, before a marked segment is looked for.
+fn with_reason(outcome: u8, reason: Reason) -> Explanation
+    requires { let told = told_of reason in told.place ≤ 255 }
+    ensures { let told = told_of reason in
+        let alone = bare outcome in
+        result ≡ record alone {
+          reason = told.number;
+          place = told.place;
+          cost = told.cost;
+          plan_cost = told.plan_cost;
+        } }
 {
-    Reason {
-        number,
-        place,
-        cost: 0,
-        plan_cost: 0,
+    let alone = bare(outcome);
+    match reason {
+        Reason::OverMoveBound => Explanation { reason: 1, ..alone },
+        Reason::CannotRun(place) => Explanation {
+            reason: 2,
+            place: place as u8,
+            ..alone
+        },
+        Reason::OverCostBound(place) => Explanation {
+            reason: 3,
+            place: place as u8,
+            ..alone
+        },
+        Reason::OffGoal(place) => Explanation {
+            reason: 4,
+            place: place as u8,
+            ..alone
+        },
+        Reason::Dearer { cost, plan_cost } => Explanation {
+            reason: 5,
+            cost,
+            plan_cost,
+            ..alone
+        },
+        Reason::Later => Explanation { reason: 6, ..alone },
+        Reason::IsPlan => Explanation { reason: 7, ..alone },
     }
 }
 
 // The reason for a proposal that leads to the goal: dearer than the plan, as cheap but later, or the plan.
 fn comparison(set: RuleSet, plan: &[u8], moves: &[u8]) -> Reason
     requires { sequence_cost set moves.now ≤ 65535 }
-    ensures { result ≡ comparison_of set moves.now plan.now }
+    ensures { told_of result ≡ comparison_of set moves.now plan.now }
 {
     let cost = cost_of(set, moves);
     let plan_cost = cost_of(set, plan);
     if plan_cost < cost {
-        return Reason {
-            number: 5,
-            place: 0,
+        Reason::Dearer {
             cost: cost as u16,
             plan_cost: plan_cost as u16,
-        };
+        }
+    } else if moves == plan {
+        Reason::IsPlan
+    } else {
+        Reason::Later
     }
-    if !same_moves(moves, plan) {
-        return reason(6, 0);
-    }
-    reason(7, 0)
 }
 
 // The first reason that holds of a proposal, against the plan.
@@ -100,44 +122,22 @@ fn reason_for(
         × (length goal.now ≤ place_count) }
     ensures { (reach : ℕ) (table : List ℕ) (step_limit : ℕ)
         → let query = asked reach table start.now goal.now max_moves max_cost step_limit in
-        result ≡ reason_of set query moves.now plan.now }
+        told_of result ≡ reason_of set query moves.now plan.now }
 {
     if max_moves < moves.len() {
-        return reason(1, 0);
+        return Reason::OverMoveBound;
     }
-    let state = start_state(start);
-    let run = run_of(set, &state, moves);
-    if run.failing != 0 {
-        return reason(2, run.failing);
+    let end = match run_of(set, &start_state(start), moves) {
+        Ok(end) => end,
+        Err(failing) => return Reason::CannotRun(failing),
+    };
+    if let Some(costly) = costly_move(set, max_cost, moves) {
+        return Reason::OverCostBound(costly);
     }
-    let costly = costly_move(set, max_cost, moves);
-    if costly != 0 {
-        return reason(3, costly);
-    }
-    let end = run.end;
-    let wrong = wrong_position(goal, &end);
-    if wrong != 0 {
-        return reason(4, wrong as usize);
+    if let Some(wrong) = wrong_position(goal, &end) {
+        return Reason::OffGoal(wrong);
     }
     comparison(set, plan, moves)
-}
-
-// The witness of a segment; none where there is no segment.
-fn segment_witness(count: u8, table: &[u8], moves: &[u8], segment: Segment) -> Witness
-    requires { (segment.length ≤ segment.end) × (segment.end ≤ length moves.now) }
-    ensures { let witness = named_witness count table.now moves.now segment.end segment.length in
-        (result.length ≡ length witness)
-        × (result.rules ≡ padded 3 0 witness) }
-{
-    let end = segment.end;
-    if end == 0 {
-        return Witness {
-            length: 0,
-            rules: [0; 3],
-        };
-    }
-    let from = end - segment.length as usize;
-    witness_of(count, table, &moves[from..end])
 }
 
 // The explanation with an outcome that stands beside a reason, once the plan is known.
@@ -163,19 +163,19 @@ fn explained_with(
         → result ≡ explained_with set query q outcome (first_reason set query q) }
 {
     let reason = reason_for(set, start, goal, max_moves, max_cost, plan, moves);
-    let segment = marked_segment(set.count, reach, table, moves);
-    let witness = segment_witness(set.count, table, moves, segment);
+    let told = with_reason(outcome, reason);
+    let Some(segment) = marked_segment(set.count, reach, table, moves) else {
+        return told;
+    };
+    let from = segment.end - usize::from(segment.length);
+    let witness = witness_of(set.count, table, &moves[from..segment.end]);
     let rules = witness.rules;
     Explanation {
-        outcome,
-        reason: reason.number,
-        place: reason.place as u8,
-        cost: reason.cost,
-        plan_cost: reason.plan_cost,
         segment_end: segment.end,
         segment_length: segment.length,
         witness_length: witness.length,
         witness: rules,
+        ..told
     }
 }
 

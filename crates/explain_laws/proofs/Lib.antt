@@ -1,3 +1,5 @@
+pub mod PlaceLaws
+pub mod PositionLaws
 pub mod ProposalLoopLaws
 pub mod SegmentLoopLaws
 pub mod ReasonOfLaws

@@ -21,35 +21,33 @@ use Rattle.explain_laws.specs.How.Proposals.{held_moves}
 
 -- ── The first number from 1 to n that passes ─────────────────────────────────────────────────────
 
--- what the numbers behind i decide
-pub first_behind : (ℕ → Bool) → ℕ → ℕ → ℕ
-first_behind test n i = first_that test (numbers_from (i + 1) (n + 1 - (i + 1)))
+-- what the numbers from k on decide
+pub first_from : (ℕ → Bool) → ℕ → ℕ → ℕ
+first_from test n k = first_that test (numbers_from k (n + 1 - k))
 
 module _ (test : ℕ → Bool) (n : ℕ) where
-  pub behind-start : first_behind test n 0 ≡ first_that test (numbers_from 1 n)
-  unfolding first_behind
-  behind-start = let e : n + 1 - (0 + 1) ≡ n = omega arith in ap (λ m. first_that test (numbers_from 1 m)) e
+  pub from-start : first_from test n 1 ≡ first_that test (numbers_from 1 n)
+  unfolding first_from
+  from-start = let e : n + 1 - 1 ≡ n = omega arith in ap (λ m. first_that test (numbers_from 1 m)) e
 
-  module _ (i X : ℕ) (inv : first_behind test n i ≡ X) where
-    pub behind_go : i < n → test (i + 1) ≡ false → first_behind test n (i + 1) ≡ X
-    unfolding first_behind
-    behind_go h e = first_go test (i + 1) (n + 1) X inv (omega arith) e
+  module _ (k X : ℕ) (inv : first_from test n k ≡ X) where
+    pub from_go : k ≤ n → test k ≡ false → first_from test n (k + 1) ≡ X
+    unfolding first_from
+    from_go h e = first_go test k (n + 1) X inv (omega arith) e
 
-    pub behind_stop : i < n → test (i + 1) ≡ true → i + 1 ≡ X
-    unfolding first_behind
-    behind_stop h e = first_stop test (i + 1) (n + 1) X inv (omega arith) e
+    pub from_stop : k ≤ n → test k ≡ true → k ≡ X
+    unfolding first_from
+    from_stop h e = first_stop test k (n + 1) X inv (omega arith) e
 
-    pub behind-end : n ≤ i → 0 ≡ X
-    unfolding first_behind
-    behind-end h = first-end test (i + 1) (n + 1) X inv (omega arith)
+    pub from-end : n < k → 0 ≡ X
+    unfolding first_from
+    from-end h = first-end test k (n + 1) X inv (omega arith)
 
-    -- none of those behind i passes
-    pub behind_none : ((k : ℕ) → i < k → k ≤ n → test k ≡ false) → 0 ≡ X
-    unfolding first_behind
-    behind_none f =
-        let none = (first_none_iff test (i + 1) (n + 1 - (i + 1)) (omega arith)).1
-        (λ k a b. f k (omega arith) (omega arith)) in
-        sym none ∙ inv
+    -- none of those from k on passes
+    pub from_none : 1 ≤ k → ((j : ℕ) → k ≤ j → j ≤ n → test j ≡ false) → 0 ≡ X
+    unfolding first_from
+    from_none one f =
+        let none = (first_none_iff test k (n + 1 - k) one).1 (λ j a b. f j a (omega arith)) in sym none ∙ inv
 
 -- ── One move more ────────────────────────────────────────────────────────────────────────────────
 

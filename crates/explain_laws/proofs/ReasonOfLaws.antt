@@ -20,8 +20,7 @@ use Rattle.model_spec.specs.declared.RuleSet.{RuleSet}
 use Rattle.search_spec.specs.Query.{Query, start_state}
 use Rattle.explain_spec.specs.Reasons.{failing_move, costly_move, wrong_position, state_of, end_position}
 use Rattle.explain_spec.specs.Reasons.{reasons, place_of}
-use Rattle.explain_laws.specs.How.Proposals.{reason_with, reason_of, comparison_of}
-use Rattle.explain_laws.specs.declared.Reason.{Reason}
+use Rattle.explain_laws.specs.How.Proposals.{Told, reason_with, reason_of, comparison_of}
 
 -- ── Against the plan ─────────────────────────────────────────────────────────────────────────────
 
@@ -131,7 +130,7 @@ module _ (set : RuleSet) (query : Query) (q p : Sequence) (few : query.max_moves
   unfolding reason_of place_of
   place_limit =
       ⊎_elim
-      (λ h. omega (arith, ap (λ (r : Reason). r.place) (long_of set query q p h)))
+      (λ h. omega (arith, ap (λ (r : Told). r.place) (long_of set query q p h)))
       (λ h. let w = move_limits (omega arith) in
       let number = first_refusal (reasons set query q p) in
       chosen (eqb number 2) (eqb number 3) (eqb number 4) _ _ _ w.0 w.1 position_limit_lem)

@@ -4,15 +4,17 @@ use mathlib.Core.Path.{◌≡◌, refl, ap, ◌∙◌}
 use mathlib.Core.Logic.{◌≢◌, ⊎_elim}
 use mathlib.Core.Bool.{Bool, true, false, not}
 use mathlib.Core.List.{List}
-use Prim.Native.Nat.{ℕ, zero, suc, ◌+◌, ◌-◌, ◌*◌, ◌≤◌, ◌<◌, min}
+use Prim.Native.Nat.{ℕ, zero, suc, ◌+◌, ◌*◌, ◌≤◌, ◌<◌, min}
 use native.Mathlib.Nat.{mul-le-mul}
 use native.Mathlib.Numerals.{add-one}
 use native.Mathlib.Omega.{arith}
 use lib.Dec.{eqb}
+use Rattle.std.specs.Prelude.{Option, Some, None}
+use Rattle.explain_laws.specs.declared.Segment.{Segment}
 use lib.ListN.{length, get_or, take}
 use lib.Seq.{take-suc}
 use borrow.Author.Tests.{lt-leb, le-leb}
-use Rattle.theory_spec.specs.Lists.{any, numbers_from, first_that}
+use Rattle.theory_spec.specs.Lists.{numbers_from}
 use Rattle.theory_spec.specs.Sequences.{Sequence}
 use Rattle.theory_spec.specs.How.Indices.{index_of}
 use Rattle.theory_spec.proofs.ListLaws.{never_true, not-both, any_true, true-any, of-numbers_from, in-numbers_from}
@@ -21,9 +23,10 @@ use Rattle.theory_spec.proofs.IndexLaws.{index_snoc}
 use Rattle.tables_spec.specs.Table.{kept, entry_at}
 use Rattle.explain_spec.specs.Segments.{segment_of, shortest_at, soonest_end, soonest_length}
 use Rattle.explain_spec.proofs.SegmentLaws.{segment-length, ends_at}
-use Rattle.explain_laws.specs.How.LookedUp.{looked_up}
-use Rattle.explain_laws.proofs.ProposalLoopLaws.{first_behind, behind-start, behind_go, behind_stop, behind-end}
-use Rattle.explain_laws.proofs.ProposalLoopLaws.{behind_none}
+use Rattle.explain_laws.specs.How.LookedUp.{looked_up, segment_if}
+use Rattle.explain_laws.specs.How.Proposals.{place_if}
+use Rattle.explain_laws.proofs.PlaceLaws.{segment_found, no_segment, place_is, no_place}
+use Rattle.explain_laws.proofs.ProposalLoopLaws.{first_from, from-start, from_go, from_stop, from-end, from_none}
 
 -- ── Indices ──────────────────────────────────────────────────────────────────────────────────────
 
@@ -85,15 +88,15 @@ module _ (m reach : ℕ) (table : List ℕ) (q : Sequence) where
     abbrev at : ℕ → Bool
     at n = marks (segment_of q e n)
 
-    pub shortest-start : first_behind at e 0 ≡ shortest_at marks q e
+    pub shortest-start : first_from at e 1 ≡ shortest_at marks q e
     unfolding shortest_at
-    shortest-start = behind-start at e
+    shortest-start = from-start at e
 
     -- behind the reach, or the front of the sequence, nothing is left
-    pub shortest-end : (n : ℕ) → min (min reach 3) e ≤ n → first_behind at e n ≡ shortest_at marks q e
+    pub shortest-end : (n : ℕ) → 1 ≤ n → min (min reach 3) e < n → first_from at e n ≡ shortest_at marks q e
         → 0 ≡ shortest_at marks q e
-    shortest-end n h inv =
-        behind_none at e n _ inv (λ k a b.
+    shortest-end n one h inv =
+        from_none at e n _ inv one (λ k a b.
         long_fails m reach table (segment_of q e k) (omega (arith, segment-length q e k b there)))
 
   -- ── The ends ───────────────────────────────────────────────────────────────────────────────────
@@ -113,25 +116,26 @@ module _ (m reach : ℕ) (table : List ℕ) (q : Sequence) where
       let b = of-numbers_from 1 e w.1 in
       not-both w.2 ((first_none_iff (λ n. marks (segment_of q e n)) 1 e (omega arith)).0 z w.0 b.0 b.1))
 
-  pub ends-start : first_behind (ends_at marks q) (length q) 0 ≡ soonest_end marks q
+  pub ends-start : first_from (ends_at marks q) (length q) 1 ≡ soonest_end marks q
   unfolding soonest_end
-  ends-start = behind-start (ends_at marks q) (length q)
+  ends-start = from-start (ends_at marks q) (length q)
 
-  module _ (e : ℕ) (inv : first_behind (ends_at marks q) (length q) e ≡ soonest_end marks q) where
-    pub ends_go : e < length q → shortest_at marks q (e + 1) ≡ 0
-        → first_behind (ends_at marks q) (length q) (e + 1) ≡ soonest_end marks q
-    ends_go h z = behind_go (ends_at marks q) (length q) e _ inv h (none_ends (e + 1) z)
+  abbrev sought : Option Segment
+  sought = segment_if (soonest_end marks q) (soonest_length marks q)
+
+  module _ (e : ℕ) (inv : first_from (ends_at marks q) (length q) e ≡ soonest_end marks q) where
+    pub ends_go : e ≤ length q → None ≡ place_if (shortest_at marks q e)
+        → first_from (ends_at marks q) (length q) (e + 1) ≡ soonest_end marks q
+    ends_go h z = from_go (ends_at marks q) (length q) e _ inv h (none_ends e (no_place _ z))
 
     -- the first end, and the shortest segment there
-    pub ends_stop : e < length q → shortest_at marks q (e + 1) ≢ 0
-        → (e + 1 ≡ soonest_end marks q) × (shortest_at marks q (e + 1) ≡ soonest_length marks q)
+    pub ends_stop : 1 ≤ e → e ≤ length q → (n : ℕ) → Some n ≡ place_if (shortest_at marks q e)
+        → Some (record { end = e; length = n }) ≡ sought
     unfolding soonest_length
-    ends_stop h n =
-        let end = behind_stop (ends_at marks q) (length q) e _ inv h (some_ends (e + 1) n) in
-        (end, ap (shortest_at marks q) end)
+    ends_stop one h n is =
+        let place = place_is (shortest_at marks q e) n is in
+        let end = from_stop (ends_at marks q) (length q) e _ inv h (some_ends e place.1) in
+        segment_found e n _ _ (λ z. omega (arith, z, end)) end (place.0 ∙ ap (shortest_at marks q) end)
 
-    pub ends-end : length q ≤ e → (0 ≡ soonest_end marks q) × (0 ≡ soonest_length marks q)
-    unfolding soonest_length shortest_at
-    ends-end h =
-        let end = behind-end (ends_at marks q) (length q) e _ inv h in
-        (end, ap (λ k. first_that (λ n. marks (segment_of q k n)) (numbers_from 1 k)) end)
+    pub ends-end : length q < e → None ≡ sought
+    ends-end h = no_segment _ _ (from-end (ends_at marks q) (length q) e _ inv h)
