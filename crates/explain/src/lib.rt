@@ -2,11 +2,11 @@
 // that holds of the proposal, and its marked segment.
 #![tactic(auto)]
 
-ghost use Rattle.std.specs.Prelude.{◌≡◌, List, ℕ, ◌≤◌, length};
+ghost use Rattle.std.specs.Prelude.{◌≡◌, ◌≤◌, length};
 ghost use Rattle.theory_spec.specs.Sequences.{Numbered};
 ghost use Rattle.model_spec.specs.Limits.{place_count, max_rules};
 ghost use Rattle.model_spec.specs.Rules.{sequence_cost};
-ghost use Rattle.search_spec.specs.Query.{asked};
+ghost use Rattle.search_spec.specs.Query.{query_of};
 ghost use Rattle.explain_spec.specs.Explained.{has_reason, bare, plan_for, explained_with, first_reason, explained};
 ghost use Rattle.explain_spec.specs.Meaning.{ProposalPassed, ExplanationMeaning};
 ghost use Rattle.explain_laws.specs.How.Proposals.{told_of, comparison_of, reason_of};
@@ -18,8 +18,10 @@ use model_spec::{MOVE_LIMIT, RuleSet};
 use moves::{cost_of, has_unknown_move};
 use proposals::{costly_move, run_of, wrong_position};
 use queries::query_refusal;
+use refusals::number_of;
+use refusals_spec::Refusal;
 use search::search;
-use search_spec::NO_MOVE;
+use search_spec::{NO_MOVE, Query};
 use search_states::start_state;
 use segments::{marked_segment, witness_of};
 
@@ -108,33 +110,24 @@ fn comparison(set: RuleSet, plan: &[u8], moves: &[u8]) -> Reason
 }
 
 // The first reason that holds of a proposal, against the plan.
-fn reason_for(
-    set: RuleSet,
-    start: &[u8],
-    goal: &[u8],
-    max_moves: usize,
-    max_cost: u16,
-    plan: &[u8],
-    moves: &[u8],
-) -> Reason
+fn reason_for(set: RuleSet, query: Query<'_>, plan: &[u8], moves: &[u8]) -> Reason
     requires { Numbered max_rules moves.now
-        × (length start.now ≤ place_count)
-        × (length goal.now ≤ place_count) }
-    ensures { (reach : ℕ) (table : List ℕ) (step_limit : ℕ)
-        → let query = asked reach table start.now goal.now max_moves max_cost step_limit in
-        told_of result ≡ reason_of set query moves.now plan.now }
+        × (length query.start.now ≤ place_count)
+        × (length query.goal.now ≤ place_count) }
+    ensures { let asked = query_of query.entry in
+        told_of result ≡ reason_of set asked moves.now plan.now }
 {
-    if max_moves < moves.len() {
+    if query.max_moves < moves.len() {
         return Reason::OverMoveBound;
     }
-    let end = match run_of(set, &start_state(start), moves) {
+    let end = match run_of(set, &start_state(query.start), moves) {
         Ok(end) => end,
         Err(failing) => return Reason::CannotRun(failing),
     };
-    if let Some(costly) = costly_move(set, max_cost, moves) {
+    if let Some(costly) = costly_move(set, query.max_cost, moves) {
         return Reason::OverCostBound(costly);
     }
-    if let Some(wrong) = wrong_position(goal, &end) {
+    if let Some(wrong) = wrong_position(query.goal, &end) {
         return Reason::OffGoal(wrong);
     }
     comparison(set, plan, moves)
@@ -143,32 +136,24 @@ fn reason_for(
 // The explanation with an outcome that stands beside a reason, once the plan is known.
 fn explained_with(
     set: RuleSet,
-    reach: usize,
-    table: &[u8],
-    start: &[u8],
-    goal: &[u8],
-    max_moves: usize,
-    max_cost: u16,
+    query: Query<'_>,
     outcome: u8,
     plan: &[u8],
     moves: &[u8],
 ) -> Explanation
-    requires { let query = asked reach table.now start.now goal.now max_moves max_cost 0 in
-        ProposalPassed set query moves.now }
-    ensures { (step_limit : ℕ)
-        → let query = asked reach table.now start.now goal.now
-        max_moves max_cost step_limit in
+    requires { let asked = query_of query in
+        ProposalPassed set asked moves.now }
+    ensures { let asked = query_of query.entry in
         let q = moves.now in
-        plan.now ≡ plan_for set query
-        → result ≡ explained_with set query q outcome (first_reason set query q) }
+        plan.now ≡ plan_for set asked
+        → result ≡ explained_with set asked q outcome (first_reason set asked q) }
 {
-    let reason = reason_for(set, start, goal, max_moves, max_cost, plan, moves);
-    let told = with_reason(outcome, reason);
-    let Some(segment) = marked_segment(set.count, reach, table, moves) else {
+    let told = with_reason(outcome, reason_for(set, query, plan, moves));
+    let Some(segment) = marked_segment(set.count, query.reach, query.table, moves) else {
         return told;
     };
     let from = segment.end - usize::from(segment.length);
-    let witness = witness_of(set.count, table, &moves[from..segment.end]);
+    let witness = witness_of(set.count, query.table, &moves[from..segment.end]);
     let rules = witness.rules;
     Explanation {
         segment_end: segment.end,
@@ -181,39 +166,23 @@ fn explained_with(
 
 // Explains why the search does not show a proposed sequence, whatever the parts of the query are and however long the
 // proposal is. A move that is no rule's number is told without a search.
-pub fn explain(
-    set: RuleSet,
-    reach: usize,
-    table: &[u8],
-    start: &[u8],
-    goal: &[u8],
-    max_moves: usize,
-    max_cost: u16,
-    step_limit: u32,
-    moves: &[u8],
-) -> Explanation
-    ensures { let query = asked reach table.now start.now goal.now
-        max_moves max_cost step_limit in
-        (result ≡ explained set query moves.now)
-        × ExplanationMeaning set query moves.now result }
+pub fn explain(set: RuleSet, query: Query<'_>, moves: &[u8]) -> Explanation
+    ensures { let asked = query_of query.entry in
+        (result ≡ explained set asked moves.now)
+        × ExplanationMeaning set asked moves.now result }
 {
     if has_unknown_move(set.count, moves) {
-        let refusal = query_refusal(set, reach, table, start, goal, max_moves, MOVE_LIMIT);
-        if refusal != 0 {
-            return bare(refusal);
-        }
-        return bare(13);
+        return match query_refusal(set, query, MOVE_LIMIT) {
+            Ok(()) => bare(number_of(Refusal::UnknownMove)),
+            Err(refusal) => bare(number_of(refusal)),
+        };
     }
     let mut plan = [NO_MOVE; MOVE_LIMIT];
-    let answer = search(
-        set, reach, table, start, goal, max_moves, max_cost, step_limit, &mut plan,
-    );
+    let answer = search(set, query, &mut plan);
     let outcome = answer.outcome;
     if !has_reason(outcome) {
         return bare(outcome);
     }
     let shown = plan_part(&plan, answer.length as usize);
-    explained_with(
-        set, reach, table, start, goal, max_moves, max_cost, outcome, shown, moves,
-    )
+    explained_with(set, query, outcome, shown, moves)
 }

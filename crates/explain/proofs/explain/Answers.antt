@@ -2,7 +2,7 @@
 use mathlib.Core.Path.{◌≡◌, sym, ap, ◌∙◌, subst}
 use Rattle.theory_spec.specs.Sequences.{Sequence}
 use Rattle.model_spec.specs.declared.RuleSet.{RuleSet}
-use Rattle.search_spec.specs.Query.{Query, asked}
+use Rattle.search_spec.specs.Query.{Query, query_of}
 use Rattle.search_spec.specs.Searched.{shown_plan, Searched}
 use Rattle.search_spec.specs.PlanPart.{part_of}
 use Rattle.search_spec.proofs.PlanPartLaws.{part-shown}
@@ -12,6 +12,7 @@ use Rattle.explain_spec.specs.declared.Explanation.{Explanation}
 use Rattle.explain_spec.proofs.MeaningLaws.{explanation_meaning}
 use Rattle.explain_laws.proofs.ExplainedLaws.{alone_of, told_of, refused-first, unknown-first, searched-outcome}
 use Rattle.explain_laws.proofs.ExplainedLaws.{proposal-passed, plan-shown}
+use Rattle.search_laws.proofs.RefusalLaws.{refused}
 use Rattle.explain.proofs.explain.Goals as goal
 
 -- the definition's answer has its meaning
@@ -19,29 +20,28 @@ means : (set : RuleSet) (query : Query) (q : Sequence) (r : Explanation) → r �
     → (r ≡ explained set query q) × ExplanationMeaning set query q r
 means set query q r e = (e, subst (ExplanationMeaning set query q) (sym e) (explanation_meaning set query q))
 
-pub returns-then-refusal-ne0 : goal.returns-then-refusal-ne0
-returns-then-refusal-ne0 c =
+pub returns-in-Ok : goal.returns-in-Ok
+returns-in-Ok c =
     let a = c.args in
-    let query = asked a.reach a.table.now a.start.now a.goal.now a.max_moves a.max_cost a.step_limit in
+    let query = query_of a.query in
     let q = a.moves.now in
-    let told = c.query_refusal-refusal.ensures a.max_cost a.step_limit in
     means a.set query q _
-    (c.bare.ensures ∙ ap bare told ∙ refused-first a.set query q (λ z. c.if-refusal-ne0.true (told ∙ z)))
-
-pub returns-then-has_unknown_move : goal.returns-then-has_unknown_move
-returns-then-has_unknown_move c =
-    let a = c.args in
-    let query = asked a.reach a.table.now a.start.now a.goal.now a.max_moves a.max_cost a.step_limit in
-    let q = a.moves.now in
-    let told = c.query_refusal-refusal.ensures a.max_cost a.step_limit in
-    means a.set query q _
-    (c.bare-then-has_unknown_move.ensures ∙ unknown-first a.set query q (sym told ∙ c.if-refusal-ne0.false)
+    (c.bare.ensures ∙ ap bare c.number_of.ensures ∙ unknown-first a.set query q (sym c.in-Ok.ensures)
     (sym c.has_unknown_move.ensures ∙ c.if-has_unknown_move.true))
+
+pub returns-in-Err : goal.returns-in-Err
+returns-in-Err c =
+    let a = c.args in
+    let query = query_of a.query in
+    let told = c.in-Err.ensures in
+    means a.set query a.moves.now _
+    (c.bare-in-Err.ensures ∙ ap bare (c.number_of-in-Err.ensures ∙ told)
+    ∙ refused-first a.set query a.moves.now (λ z. refused c.in-Err.refusal (told ∙ z)))
 
 pub returns-then-not-has_reason : goal.returns-then-not-has_reason
 returns-then-not-has_reason c =
     let a = c.args in
-    let query = asked a.reach a.table.now a.start.now a.goal.now a.max_moves a.max_cost a.step_limit in
+    let query = query_of a.query in
     let q = a.moves.now in
     let known = sym c.has_unknown_move.ensures ∙ c.if-has_unknown_move.false in
     let found = ap (λ (f : Searched). f.answer.outcome) c.search-answer.ensures.0 in
@@ -53,7 +53,7 @@ returns-then-not-has_reason c =
 pub explained_with-requires : goal.explained_with-requires
 explained_with-requires c =
     let a = c.args in
-    let query = asked a.reach a.table.now a.start.now a.goal.now a.max_moves a.max_cost a.step_limit in
+    let query = query_of a.query in
     let q = a.moves.now in
     let known = sym c.has_unknown_move.ensures ∙ c.if-has_unknown_move.false in
     let found = ap (λ (f : Searched). f.answer.outcome) c.search-answer.ensures.0 in
@@ -63,7 +63,7 @@ explained_with-requires c =
 pub returns : goal.returns
 returns c =
     let a = c.args in
-    let query = asked a.reach a.table.now a.start.now a.goal.now a.max_moves a.max_cost a.step_limit in
+    let query = query_of a.query in
     let q = a.moves.now in
     let known = sym c.has_unknown_move.ensures ∙ c.if-has_unknown_move.false in
     let found = ap (λ (f : Searched). f.answer.outcome) c.search-answer.ensures.0 in
@@ -71,5 +71,5 @@ returns c =
     let shown = c.plan_part-shown.ensures.0 ∙ sym (ap part_of c.search-answer.ensures.0) ∙ part-shown a.set query 32
     ∙ ap (shown_plan a.set query) found ∙ plan-shown a.set query q known _ found reasoned in
     means a.set query q _
-    (c.explained_with.ensures a.step_limit shown
+    (c.explained_with.ensures shown
     ∙ told_of a.set query q _ (searched-outcome a.set query q known ∙ found) reasoned)

@@ -15,7 +15,7 @@ use Rattle.tables_spec.specs.Answers.{Ready}
 use Rattle.tables_spec.specs.Table.{entry_at}
 use Rattle.tables_laws.specs.How.ShortSequences.{short_sequence}
 use Rattle.theory_spec.specs.How.Indices.{index_of}
-use Rattle.search_spec.specs.Query.{Query, asked}
+use Rattle.search_spec.specs.Query.{Query, query_of}
 use Rattle.explain_spec.specs.Segments.{soonest_end, soonest_length}
 use Rattle.explain_spec.specs.Explained.{plan_for, explained_with, first_reason}
 use Rattle.explain_spec.specs.Meaning.{ProposalPassed}
@@ -104,10 +104,10 @@ module _ (set : RuleSet) (query : Query) (q : Sequence) (passed : ProposalPassed
       parts outcome p told 0 0 0 (0 ∷ 0 ∷ 0 ∷ []) is_plan is_reason (sym e)
       (omega (arith, e, (segment_limits looked q).0)) refl refl
 
-pub reason_for-reason-requires : goal.reason_for-reason-requires
-reason_for-reason-requires c =
+pub reason_for-requires : goal.reason_for-requires
+reason_for-requires c =
     let s = c.args in
-    let query = asked s.reach s.table.now s.start.now s.goal.now s.max_moves s.max_cost 0 in
+    let query = query_of s.query in
     let q = s.moves.now in (
       numbered_wider s.set.count 31 q (few-rules s.set query q c.requires) c.requires.1,
       start-length s.set query q c.requires,
@@ -117,45 +117,45 @@ reason_for-reason-requires c =
 pub with_reason-told-requires : goal.with_reason-told-requires
 with_reason-told-requires c =
     let s = c.args in
-    let query = asked s.reach s.table.now s.start.now s.goal.now s.max_moves s.max_cost 0 in
+    let query = query_of s.query in
     let q = s.moves.now in
-    let told = ap (λ (r : Told). r.place) (c.reason_for-reason.ensures s.reach s.table.now 0) in
+    let told = ap (λ (r : Told). r.place) c.reason_for.ensures in
     omega (arith, told, place_limit s.set query q s.plan.now c.requires.0.0.1 (goal-length s.set query q c.requires))
 
 pub returns-in_default : goal.returns-in_default
-returns-in_default c limit is_plan =
+returns-in_default c is_plan =
     let s = c.args in
-    let query = asked s.reach s.table.now s.start.now s.goal.now s.max_moves s.max_cost limit in
+    let query = query_of s.query in
     c.with_reason-told.ensures
     ∙ alone s.set query s.moves.now c.requires s.outcome s.plan.now _ is_plan
-    (c.reason_for-reason.ensures s.reach s.table.now limit) (segment_none _ _ c.in_default.ensures)
+    c.reason_for.ensures (segment_none _ _ c.in_default.ensures)
 
 pub overflow_sub-from : goal.overflow_sub-from
 overflow_sub-from c =
     let s = c.args in
     let segment = segment_is _ _ _ c.in-Some.ensures in
-    let limits = segment_limits (looked_up s.set.count s.reach s.table.now) s.moves.now in
+    let limits = segment_limits (looked_up s.set.count s.query.reach s.query.table.now) s.moves.now in
     omega (arith, segment.0, segment.1, limits.0)
 
 pub slice_bounds-witness_of-end : goal.slice_bounds-witness_of-end
 slice_bounds-witness_of-end c =
     let s = c.args in
     let segment = segment_is _ _ _ c.in-Some.ensures in
-    let limits = segment_limits (looked_up s.set.count s.reach s.table.now) s.moves.now in
+    let limits = segment_limits (looked_up s.set.count s.query.reach s.query.table.now) s.moves.now in
     let inside : c.in-Some.segment.end ≤ length s.moves.now = omega (arith, segment.0, limits.1) in
     search rules
 
 pub returns : goal.returns
-returns c limit is_plan =
+returns c is_plan =
     let s = c.args in
-    let query = asked s.reach s.table.now s.start.now s.goal.now s.max_moves s.max_cost limit in
+    let query = query_of s.query in
     let segment = segment_is _ _ _ c.in-Some.ensures in
-    let limits = segment_limits (looked_up s.set.count s.reach s.table.now) s.moves.now in
-    let names = lent s.set.count s.table.now s.moves.now c.in-Some.segment.end c.from.result
+    let limits = segment_limits (looked_up s.set.count s.query.reach s.query.table.now) s.moves.now in
+    let names = lent s.set.count s.query.table.now s.moves.now c.in-Some.segment.end c.from.result
     (omega (arith, c.from.ensures, segment.0, segment.1, limits.0)) (λ z. segment.2 (sym segment.0 ∙ z))
-    ∙ ap (named_witness s.set.count s.table.now s.moves.now c.in-Some.segment.end) c.from.ensures in
+    ∙ ap (named_witness s.set.count s.query.table.now s.moves.now c.in-Some.segment.end) c.from.ensures in
     ap (λ (x : Explanation). completed x c.in-Some.segment.end c.in-Some.segment.length
     c.witness_of-witness.result.length c.witness_of-witness.result.rules) c.with_reason-told.ensures
     ∙ parts s.set query s.moves.now c.requires s.outcome s.plan.now _ _ _ _ _ is_plan
-    (c.reason_for-reason.ensures s.reach s.table.now limit) segment.0 segment.1
+    c.reason_for.ensures segment.0 segment.1
     (c.witness_of-witness.ensures.0 ∙ ap length names) (c.witness_of-witness.ensures.1 ∙ ap (padded 3 0) names)

@@ -10,7 +10,7 @@ use Rattle.theory_spec.specs.Sequences.{Sequence, Numbered}
 use Rattle.model_spec.specs.Rules.{run_in}
 use Rattle.model_spec.specs.States.{State}
 use Rattle.model_spec.specs.declared.RuleSet.{RuleSet}
-use Rattle.search_spec.specs.Query.{asked}
+use Rattle.search_spec.specs.Query.{query_of}
 use Rattle.explain_spec.specs.Reasons.{failing_move, wrong_position}
 use Rattle.explain_spec.proofs.ReasonLaws.{costly_iff}
 use Rattle.explain_laws.specs.How.Proposals.{held_moves, plain}
@@ -31,68 +31,68 @@ module _ (set : RuleSet) (state : State) (start : List ℕ) (q : Sequence) (e : 
   run_is : run_in set (held_moves q) state ≡ run_in set q (padded 16 0 start)
   run_is = ap₂ (run_in set) (known-moves q rules) began
 
-pub returns-then-max_moves-moves : goal.returns-then-max_moves-moves
-returns-then-max_moves-moves c reach table limit =
+pub returns-then-query-moves : goal.returns-then-query-moves
+returns-then-query-moves c =
     let s = c.args in
-    let query = asked reach table s.start.now s.goal.now s.max_moves s.max_cost limit in
-    long_of s.set query s.moves.now s.plan.now c.if-max_moves-moves.true
+    let query = query_of s.query in
+    long_of s.set query s.moves.now s.plan.now c.if-query-moves.true
 
 pub returns-in-Err : goal.returns-in-Err
-returns-in-Err c reach table limit =
+returns-in-Err c =
     let s = c.args in
-    let query = asked reach table s.start.now s.goal.now s.max_moves s.max_cost limit in
+    let query = query_of s.query in
     let failing = c.in-Err.ensures.0
-    ∙ failing_is s.set _ s.start.now s.moves.now c.start_state.ensures c.requires.1 c.requires.0 in
+    ∙ failing_is s.set _ s.query.start.now s.moves.now c.start_state.ensures c.requires.1 c.requires.0 in
     ap (plain 2) failing
-    ∙ failing_of s.set query s.moves.now s.plan.now c.if-max_moves-moves.false (λ z. c.in-Err.ensures.1 (failing ∙ z))
+    ∙ failing_of s.set query s.moves.now s.plan.now c.if-query-moves.false (λ z. c.in-Err.ensures.1 (failing ∙ z))
 
 pub returns-in-Some : goal.returns-in-Some
-returns-in-Some c reach table limit =
+returns-in-Some c =
     let s = c.args in
-    let query = asked reach table s.start.now s.goal.now s.max_moves s.max_cost limit in
-    let runs = sym (failing_is s.set _ s.start.now s.moves.now c.start_state.ensures c.requires.1 c.requires.0)
+    let query = query_of s.query in
+    let runs = sym (failing_is s.set _ s.query.start.now s.moves.now c.start_state.ensures c.requires.1 c.requires.0)
     ∙ c.in-Ok.ensures.0 in
     let costly = place_is _ _ c.in-Some.ensures in
     ap (plain 3) costly.0
-    ∙ costly_of s.set query s.moves.now s.plan.now c.if-max_moves-moves.false runs costly.1
+    ∙ costly_of s.set query s.moves.now s.plan.now c.if-query-moves.false runs costly.1
 
 pub returns-in-Some-wrong_position : goal.returns-in-Some-wrong_position
-returns-in-Some-wrong_position c reach table limit =
+returns-in-Some-wrong_position c =
     let s = c.args in
-    let query = asked reach table s.start.now s.goal.now s.max_moves s.max_cost limit in
-    let runs = sym (failing_is s.set _ s.start.now s.moves.now c.start_state.ensures c.requires.1 c.requires.0)
+    let query = query_of s.query in
+    let runs = sym (failing_is s.set _ s.query.start.now s.moves.now c.start_state.ensures c.requires.1 c.requires.0)
     ∙ c.in-Ok.ensures.0 in
-    let ended = sym (run_is s.set _ s.start.now s.moves.now c.start_state.ensures c.requires.1 c.requires.0)
+    let ended = sym (run_is s.set _ s.query.start.now s.moves.now c.start_state.ensures c.requires.1 c.requires.0)
     ∙ c.in-Ok.ensures.1 in
     let cheap = no_place _ c.in_default.ensures in
     let end = c.in-Ok.end in
     let wrong = place_is _ _ c.in-Some-wrong_position.ensures in
-    let position = end_of s.set query s.moves.now s.plan.now c.if-max_moves-moves.false runs cheap end
+    let position = end_of s.set query s.moves.now s.plan.now c.if-query-moves.false runs cheap end
     c.in-Some-wrong_position.wrong ended
-    (wrong.0 ∙ ap (λ g. wrong_position g end) (take_all 16 s.goal.now c.requires.2)) in
-    off_of s.set query s.moves.now s.plan.now c.if-max_moves-moves.false runs cheap _ position
+    (wrong.0 ∙ ap (λ g. wrong_position g end) (take_all 16 s.query.goal.now c.requires.2)) in
+    off_of s.set query s.moves.now s.plan.now c.if-query-moves.false runs cheap _ position
     (λ z. wrong.1 (sym wrong.0 ∙ z))
 
 -- a proposal that does not pass the cost bound costs at most that
 pub comparison-requires : goal.comparison-requires
 comparison-requires c =
     let s = c.args in
-    let query = asked 0 s.goal.now s.start.now s.goal.now s.max_moves s.max_cost 0 in
+    let query = query_of s.query in
     let within = (costly_iff s.set query s.moves.now).0 (no_place _ c.in_default.ensures) in
-    omega (arith, within, c.ranges.max_cost)
+    omega (arith, within, c.ranges.query)
 
 pub returns : goal.returns
-returns c reach table limit =
+returns c =
     let s = c.args in
-    let query = asked reach table s.start.now s.goal.now s.max_moves s.max_cost limit in
-    let runs = sym (failing_is s.set _ s.start.now s.moves.now c.start_state.ensures c.requires.1 c.requires.0)
+    let query = query_of s.query in
+    let runs = sym (failing_is s.set _ s.query.start.now s.moves.now c.start_state.ensures c.requires.1 c.requires.0)
     ∙ c.in-Ok.ensures.0 in
-    let ended = sym (run_is s.set _ s.start.now s.moves.now c.start_state.ensures c.requires.1 c.requires.0)
+    let ended = sym (run_is s.set _ s.query.start.now s.moves.now c.start_state.ensures c.requires.1 c.requires.0)
     ∙ c.in-Ok.ensures.1 in
     let cheap = no_place _ c.in_default.ensures in
     let end = c.in-Ok.end in
     let right = no_place _ c.in_default-wrong_position.ensures in
-    let position = end_of s.set query s.moves.now s.plan.now c.if-max_moves-moves.false runs cheap end 0 ended
-    (sym right ∙ ap (λ g. wrong_position g end) (take_all 16 s.goal.now c.requires.2)) in
+    let position = end_of s.set query s.moves.now s.plan.now c.if-query-moves.false runs cheap end 0 ended
+    (sym right ∙ ap (λ g. wrong_position g end) (take_all 16 s.query.goal.now c.requires.2)) in
     c.comparison.ensures
-    ∙ compared_of s.set query s.moves.now s.plan.now c.if-max_moves-moves.false runs cheap (sym position)
+    ∙ compared_of s.set query s.moves.now s.plan.now c.if-query-moves.false runs cheap (sym position)
