@@ -1,53 +1,35 @@
-// A rule file, laid over a buffer.
+// A rule file, laid over a page.
 #![tactic(auto)]
 
-ghost use Rattle.std.specs.Prelude.{◌≡◌, min, take};
+ghost use Rattle.std.specs.Prelude.{take};
 ghost use Rattle.theory_spec.specs.Lists.{flat};
-ghost use Rattle.model_spec.specs.Limits.{max_rules};
 ghost use Rattle.files_spec.specs.File.{rule_text, render};
-ghost use Rattle.output_laws.specs.How.Overlay.{Laid};
+ghost use Rattle.output_laws.specs.How.Overlay.{LaidOn};
 
 use list_output::put_numbers;
-use model_spec::{MAX_RULES, RULE_PLACES, RuleSet};
+use model_spec::{RULE_PLACES, RuleSet};
 use number_output::put_number_line;
-use output::put_word;
+use output::Page;
 use rule_output::put_rule;
 
-// How many of the 31 places for rules are shown.
-fn rules_shown(count: u8) -> usize
-    ensures { result ≡ min count max_rules }
-{
-    if count < MAX_RULES {
-        count as usize
-    } else {
-        RULE_PLACES
-    }
-}
-
 // Lays the lines of all rules.
-fn put_rules(text: &mut [u8], at: usize, set: RuleSet) -> usize
-    ensures { Laid at (flat (rule_text set.positions) (take set.count set.rules))
-        text.old result text.new }
+fn put_rules(page: &mut Page<'_>, set: RuleSet)
+    ensures { LaidOn page.old.at (flat (rule_text set.positions) (take set.count set.rules))
+        page.old.text page.new.at page.new.text }
 {
-    let count = rules_shown(set.count);
-    let mut next = at;
-    let mut k: usize = 0;
-    while k < count {
-        let rule = set.rules[k];
-        next = put_rule(text, next, rule, set.positions);
-        k += 1;
+    let count = (set.count as usize).min(RULE_PLACES);
+    for rule in &set.rules[..count] {
+        put_rule(page, *rule, set.positions);
     }
-    next
 }
 
-// Lays the whole file of a set, from the start of the text on.
-pub fn put_file(text: &mut [u8], set: RuleSet) -> usize
-    ensures { Laid 0 (render set) text.old result text.new }
+// Lays the whole file of a set.
+pub fn put_file(page: &mut Page<'_>, set: RuleSet)
+    ensures { LaidOn page.old.at (render set) page.old.text page.new.at page.new.text }
 {
-    let sizes = set.sizes;
-    let first = put_number_line(text, 0, b"positions=", set.positions as usize);
-    let second = put_word(text, first, b"sizes=");
-    let third = put_numbers(text, second, &sizes, set.positions as usize);
-    let fourth = put_number_line(text, third, b"rules=", set.count as usize);
-    put_rules(text, fourth, set)
+    put_number_line(page, b"positions=", set.positions as usize);
+    page.put_word(b"sizes=");
+    put_numbers(page, &set.sizes, set.positions as usize);
+    put_number_line(page, b"rules=", set.count as usize);
+    put_rules(page, set);
 }

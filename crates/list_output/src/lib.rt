@@ -1,66 +1,75 @@
-// The comma lists of a rule file, each laid over a buffer from a place on.
+// The comma lists of a rule file, each laid over a page.
 #![tactic(auto)]
 
+ghost use Rattle.std.specs.Prelude.{List, ℕ};
 ghost use Rattle.files_spec.specs.Text.{numeral};
 ghost use Rattle.files_spec.specs.File.{entry_text};
-ghost use Rattle.output_laws.specs.How.Overlay.{Laid, list_text};
+ghost use Rattle.output_laws.specs.How.Overlay.{LaidOn, list_text};
 
-use bounded::smaller;
 use model_spec::FIRST_VARIABLE;
 use number_output::put_number;
-use output::put;
-use separators::ending;
+use output::Page;
 
-// Lays a number of one byte.
-fn put_byte(text: &mut [u8], at: usize, n: u8) -> usize
-    ensures { Laid at (numeral n) text.old result text.new }
-{
-    put_number(text, at, n as usize)
+// How the items of a list are written.
+trait Items {
+    ghost text: { ℕ → List ℕ };
+
+    // Lays an item.
+    fn put(page: &mut Page<'_>, item: u8)
+        ensures { LaidOn page.old.at (text item) page.old.text page.new.at page.new.text };
 }
 
-// Lays an entry.
-fn put_entry(text: &mut [u8], at: usize, entry: u8) -> usize
-    ensures { Laid at (entry_text entry) text.old result text.new }
-{
-    if entry < FIRST_VARIABLE {
-        return put_byte(text, at, entry);
+// Numbers.
+struct Numbers;
+
+impl Items for Numbers {
+    ghost text = { numeral };
+
+    fn put(page: &mut Page<'_>, item: u8) {
+        put_number(page, item as usize);
     }
-    let next = put(text, at, b'x');
-    put_byte(text, next, entry - 15)
 }
 
-// Lays so many of the numbers, or all where there are fewer, with commas between them, and a line feed.
-pub fn put_numbers(text: &mut [u8], at: usize, numbers: &[u8], count: usize) -> usize
-    ensures { Laid at (list_text numeral count numbers.now) text.old result text.new }
-{
-    let many = smaller(count, numbers.len());
-    if many < 1 {
-        return put(text, at, b'\n');
+// Entries: a constant's number, or the letter and a variable's position.
+struct Entries;
+
+impl Items for Entries {
+    ghost text = { entry_text };
+
+    fn put(page: &mut Page<'_>, item: u8) {
+        if item < FIRST_VARIABLE {
+            return put_number(page, item as usize);
+        }
+        page.put(b'x');
+        put_number(page, (item - 15) as usize);
     }
-    let mut next = at;
-    let mut i: usize = 0;
-    while i < many {
-        let end = put_byte(text, next, numbers[i]);
-        next = put(text, end, ending(many - 1 - i));
-        i += 1;
-    }
-    next
 }
 
-// Lays so many of the entries, or all where there are fewer, with commas between them, and a line feed.
-pub fn put_entries(text: &mut [u8], at: usize, entries: &[u8], count: usize) -> usize
-    ensures { Laid at (list_text entry_text count entries.now) text.old result text.new }
+// Lays so many of the items, or all where there are fewer, with commas between them, and a line feed.
+fn put_list<I: Items>(page: &mut Page<'_>, items: &[u8], count: usize)
+    ensures { LaidOn page.old.at (list_text I.text count items.now) page.old.text page.new.at page.new.text }
 {
-    let many = smaller(count, entries.len());
-    if many < 1 {
-        return put(text, at, b'\n');
+    let shown = &items[..count.min(items.len())];
+    if let Some((first, others)) = shown.split_first() {
+        I::put(page, *first);
+        for item in others {
+            page.put(b',');
+            I::put(page, *item);
+        }
     }
-    let mut next = at;
-    let mut i: usize = 0;
-    while i < many {
-        let end = put_entry(text, next, entries[i]);
-        next = put(text, end, ending(many - 1 - i));
-        i += 1;
-    }
-    next
+    page.put(b'\n');
+}
+
+// Lays so many of the numbers.
+pub fn put_numbers(page: &mut Page<'_>, numbers: &[u8], count: usize)
+    ensures { LaidOn page.old.at (list_text numeral count numbers.now) page.old.text page.new.at page.new.text }
+{
+    put_list::<Numbers>(page, numbers, count);
+}
+
+// Lays so many of the entries.
+pub fn put_entries(page: &mut Page<'_>, entries: &[u8], count: usize)
+    ensures { LaidOn page.old.at (list_text entry_text count entries.now) page.old.text page.new.at page.new.text }
+{
+    put_list::<Entries>(page, entries, count);
 }

@@ -1,36 +1,43 @@
-// Text laid over a buffer from a place on, as far as the buffer reaches; the place after it is given back, held at the
-// largest of the machine's numbers.
+// Text laid over a buffer, byte by byte, as far as the buffer reaches.
 #![tactic(auto)]
 
 ghost use Rattle.std.specs.Prelude.{◌≡◌, [], ◌∷◌};
-ghost use Rattle.output_laws.specs.How.Overlay.{place_after, Laid};
+ghost use Rattle.output_laws.specs.How.Overlay.{LaidOn};
 
-// The place after a byte.
-fn following(at: usize) -> usize
-    ensures { result ≡ place_after at 1 }
-{
-    if at < usize::MAX { at + 1 } else { at }
+// A buffer and the place of its next byte, which goes on past the buffer's end, up to the largest of the machine's
+// numbers.
+#[derive(Drop)]
+pub struct Page<'a> {
+    pub text: &'a mut [u8],
+    pub at: usize,
 }
 
-// Lays one byte.
-pub fn put(text: &mut [u8], at: usize, byte: u8) -> usize
-    ensures { Laid at (byte ∷ []) text.old result text.new }
-{
-    if at < text.len() {
-        text[at] = byte;
+impl<'a> Page<'a> {
+    // A buffer from its start on.
+    pub fn new(text: &'a mut [u8]) -> Page<'a>
+        ensures same { result.text.ghost_name ≡ text.entry.ghost_name }
+        ensures text { result.text.now ≡ text.old }
+        ensures place { result.at ≡ 0 }
+    {
+        Page { text, at: 0 }
     }
-    following(at)
-}
 
-// Lays a word.
-pub fn put_word(text: &mut [u8], at: usize, word: &[u8]) -> usize
-    ensures { Laid at word.now text.old result text.new }
-{
-    let mut next = at;
-    let mut i: usize = 0;
-    while i < word.len() {
-        next = put(text, next, word[i]);
-        i += 1;
+    // Lays one byte.
+    pub fn put(&mut self, byte: u8)
+        ensures { LaidOn self.old.at (byte ∷ []) self.old.text self.new.at self.new.text }
+    {
+        if self.at < self.text.len() {
+            self.text[self.at] = byte;
+        }
+        self.at = self.at.saturating_add(1);
     }
-    next
+
+    // Lays a word.
+    pub fn put_word(&mut self, word: &[u8])
+        ensures { LaidOn self.old.at word.now self.old.text self.new.at self.new.text }
+    {
+        for byte in word {
+            self.put(*byte);
+        }
+    }
 }

@@ -1,3 +1,4 @@
 pub mod ByteLaws
 pub mod OverlayLaws
 pub mod WriteLoopLaws
+pub mod PageLaws

@@ -1,24 +1,19 @@
--- The turns of the loops that lay a list over a text, element by element. Of the first `count` elements those from
--- place
--- i on remain, `slice i count`; an item is laid with the byte that ends it.
+-- The turns of the loops that lay a list, item by item: those from place i on remain.
 -- Assumes nothing.
-use mathlib.Core.Path.{◌≡◌, refl, sym, ap, ◌∙◌}
+use mathlib.Core.Path.{◌≡◌, sym, ap, ◌∙◌}
 use mathlib.Core.Logic.{⊎_elim}
-use mathlib.Core.List.{List, [], ◌∷◌, ◌++◌, map, append_assoc}
-use Prim.Native.Nat.{ℕ, ◌+◌, ◌-◌, ◌≤◌, ◌<◌, min}
+use mathlib.Core.List.{List, [], ◌∷◌, ◌++◌, map, append-nil, append_assoc}
+use Prim.Native.Nat.{ℕ, ◌+◌, ◌≤◌, ◌<◌, min}
 use Prim.Native.String.{String}
 use native.Mathlib.Numerals.{add-one}
 use native.Mathlib.Omega.{arith}
-use lib.ListN.{length, get_or, take, length-take, drop_of_length-le}
-use lib.Seq.{length-take-le, take_all, append_snoc, slice, slice-cons, length-slice}
+use lib.ListN.{length, get_or, take, drop, drop_of_length-le}
+use lib.Seq.{take_all, drop-cons}
+use Rattle.std.proofs.lemmas.List.{nil_from_length}
+use Rattle.theory_spec.specs.Lists.{flat}
 use Rattle.theory_spec.proofs.TestLaws.{below?}
-use Rattle.files_spec.specs.Text.{bytes, line_feed, comma_list, line}
-use Rattle.files_spec.specs.Reading.{ending_of}
-use Rattle.output_laws.specs.How.Overlay.{Laid, list_text}
-use Rattle.files_spec.proofs.TextLaws.{ended, ended_commas}
-use Rattle.output_laws.proofs.OverlayLaws.{laid-append, Remains, remains-rest}
-
--- ── Elements from a place on ─────────────────────────────────────────────────────────────────────
+use Rattle.files_spec.specs.Text.{bytes, line_feed, comma, comma_list, line}
+use Rattle.output_laws.specs.How.Overlay.{list_text}
 
 module _ {A : Type 0} (l : List A) where
   -- no more elements are taken than there are
@@ -31,59 +26,51 @@ module _ {A : Type 0} (l : List A) where
       many : length l ≤ count → take (min count (length l)) l ≡ take count l
       many h = take_all (min count (length l)) l (omega arith) ∙ sym (take_all count l h)
 
-  module _ (count i : ℕ) where
-    -- the one at i comes first
-    pub slice_more : (d : A) → i < count → count ≤ length l → slice i count l ≡ get_or l i d ∷ slice (i + 1) count l
-    slice_more d h k = rw (add-one i) (slice-cons i count l d h k)
+  module _ (item_text : A → List ℕ) where
+    -- the text of the items from place i on
+    abbrev pub items_from : ℕ → List ℕ
+    items_from i = flat item_text (drop i l)
+
+    -- that of the one at i comes first
+    pub items_more : (i : ℕ) (d : A) → i < length l → items_from i ≡ item_text (get_or l i d) ++ items_from (i + 1)
+    items_more i d h = rw (add-one i, drop-cons l i d h)
 
     -- none are left
-    pub slice_none : count ≤ i → slice i count l ≡ []
-    slice_none h = drop_of_length-le (take count l) {i = i} (omega (arith, length-take count l))
+    pub items_end : (i : ℕ) → length l ≤ i → items_from i ≡ []
+    items_end i h = ap (flat item_text) (drop_of_length-le l h)
 
--- ── Items with the bytes that end them ───────────────────────────────────────────────────────────
+-- ── Comma lists ──────────────────────────────────────────────────────────────────────────────────
+
+module _ (item_text : ℕ → List ℕ) where
+  -- a comma and the item
+  abbrev pub behind_comma : ℕ → List ℕ
+  behind_comma e = comma ∷ item_text e
+
+  -- a comma list is its first item, and each of the others behind a comma
+  commas-first : (e : ℕ) (l : List ℕ) → comma_list (map item_text (e ∷ l)) ≡ item_text e ++ flat behind_comma l
+  commas-first e [] = sym (append-nil (item_text e))
+  commas-first e (f ∷ l) = ap (λ r. item_text e ++ (comma ∷ r)) (commas-first f l)
+
+  module _ (count : ℕ) (items : List ℕ) where
+    -- the text of a list, by the items that are shown
+    list-shown : (shown : List ℕ) → take (min count (length items)) items ≡ shown
+        → list_text item_text count items ≡ comma_list (map item_text shown) ++ (line_feed ∷ [])
+    unfolding list_text
+    list-shown shown e =
+        ap (λ l. comma_list (map item_text l) ++ (line_feed ∷ [])) (sym (take-least items count) ∙ e)
+
+    -- of none there is the line feed alone
+    pub list_none : length (take (min count (length items)) items) ≡ 0
+        → list_text item_text count items ≡ line_feed ∷ []
+    list_none none = list-shown [] (nil_from_length _ none)
+
+    -- of others there is the first, and each of the others behind a comma
+    pub list-first : (e : ℕ) (l : List ℕ) → take (min count (length items)) items ≡ e ∷ l
+        → list_text item_text count items ≡ (item_text e ++ flat behind_comma l) ++ (line_feed ∷ [])
+    list-first e l some = list-shown (e ∷ l) some ∙ ap (λ k. k ++ (line_feed ∷ [])) (commas-first e l)
 
 -- a line is its key and what stands after the key
 pub list-line : (item_text : ℕ → List ℕ) (key : String) (count : ℕ) (l : List ℕ)
     → line key (map item_text (take count l)) ≡ bytes key ++ list_text item_text count l
 unfolding line list_text
 list-line item_text key count l = append_assoc (bytes key) (comma_list (map item_text (take count l))) (line_feed ∷ [])
-
-module _ (item_text : ℕ → List ℕ) (l : List ℕ) where
-  module _ (count many : ℕ) (e : many ≡ min count (length l)) where
-    -- so many items are shown
-    list-shown : list_text item_text count l ≡ comma_list (map item_text (take many l)) ++ (line_feed ∷ [])
-    unfolding list_text
-    list-shown = rw (e, take-least l count)
-
-    -- of no item there is the line feed alone
-    pub list_none : many ≡ 0 → list_text item_text count l ≡ line_feed ∷ []
-    list_none none = list-shown ∙ ap (λ n. comma_list (map item_text (take n l)) ++ (line_feed ∷ [])) none
-
-    -- at the start all remain
-    pub list_all : 1 ≤ many → list_text item_text count l ≡ ended item_text (take many l) []
-    list_all some =
-        list-shown
-        ∙ sym (ended_commas item_text (take many l) [] (omega (arith, length-take-le many l (omega arith))))
-
-  module _ (count : ℕ) (k : count ≤ length l) where
-    module _ (i : ℕ) (h : i < count) where
-      -- the item at i and the byte that ends it come first
-      ended_more : ended item_text (slice i count l) []
-          ≡ item_text (get_or l i 0) ++ (ending_of (count - 1 - i) ∷ []) ++ ended item_text (slice (i + 1) count l) []
-      ended_more =
-          let after : count - (i + 1) ≡ count - 1 - i = omega arith in
-          rw (slice_more l count i 0 h k, length-slice (i + 1) count l k, after)
-          (sym (append_snoc (item_text (get_or l i 0)) (ending_of (count - 1 - i))
-          (ended item_text (slice (i + 1) count l) [])))
-
-      -- once they are laid the others remain
-      pub ended-rest : {at : ℕ} {all before : List ℕ} {next end next' b : ℕ} {t t' t'' : List ℕ}
-          → Remains at all before next (ended item_text (slice i count l) []) t
-          → Laid next (item_text (get_or l i 0)) t end t'
-          → b ≡ ending_of (count - 1 - i) → Laid end (b ∷ []) t' next' t''
-          → Remains at all before next' (ended item_text (slice (i + 1) count l) []) t''
-      ended-rest r item e byte = remains-rest r _ _ ended_more (laid-append item (rw e at byte))
-
-    -- none are left
-    pub ended_none : (i : ℕ) → count ≤ i → ended item_text (slice i count l) [] ≡ []
-    ended_none i h = ap (λ s. ended item_text s []) (slice_none l count i h)

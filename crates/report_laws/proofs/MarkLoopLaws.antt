@@ -1,14 +1,17 @@
 -- The lines of an entry, and the turns of the loops over the entries of a table: those from place i on remain, for
 -- their number and for their lines.
 -- Assumes nothing.
-use mathlib.Core.Path.{◌≡◌}
+use mathlib.Core.Path.{◌≡◌, refl, ap}
+use mathlib.Core.Bool.{Bool, true, false, cond}
 use mathlib.Core.Logic.{◌≢◌}
 use mathlib.Core.List.{List, [], ◌∷◌, ◌++◌}
-use Prim.Native.Nat.{ℕ, ◌+◌, ◌-◌, ◌/◌, ◌≤◌, ◌<◌}
+use Prim.Native.Nat.{ℕ, zero, suc, ◌+◌, ◌-◌, ◌/◌, ◌≤◌, ◌<◌}
+use native.Mathlib.Numerals.{add-one}
 use native.Mathlib.Omega.{arith}
 use lib.ListN.{length}
 use borrow.Author.Tests.{eq-eqb, ne_eqb}
-use Rattle.theory_spec.specs.Lists.{keep, flat, numbers_from}
+use Rattle.std.specs.List.{filter, range_with_len}
+use Rattle.theory_spec.specs.Lists.{keep_if, keep, flat, numbers_from}
 use Rattle.model_spec.proofs.LoopLaws.{left_more, left_none}
 use Rattle.model_spec.specs.declared.RuleSet.{RuleSet}
 use Rattle.files_spec.specs.Text.{bytes, line_feed, line}
@@ -37,27 +40,18 @@ module _ (set : RuleSet) (i entry : ℕ) where
 -- ── All entries ──────────────────────────────────────────────────────────────────────────────────
 
 module _ (table : List ℕ) where
-  -- the marks from place i on
-  abbrev pub marks_from : ℕ → List ℕ
-  marks_from i = keep (marks table) (numbers_from i (length table / 2 - i))
-
-  -- at the start all remain
-  pub marks_all : marks_from 0 ≡ table_marks table
+  -- the marks, as a chain of iterators gives them
+  pub marks-filtered : filter (marks table) (range_with_len 0 (length table / 2)) ≡ table_marks table
   unfolding table_marks
-  marks_all = let e : length table / 2 - 0 ≡ length table / 2 = omega arith in rw e
+  marks-filtered = go 0 (length table / 2)
+    where
+      take_or_pass : (b : Bool) (i : ℕ) (l m : List ℕ) → l ≡ m → cond b (i ∷ l) l ≡ keep_if b i m
+      take_or_pass true i l m e = ap (◌∷◌ i) e
+      take_or_pass false i l m e = e
 
-  module _ (i : ℕ) (h : i < length table / 2) where
-    -- a mark comes first
-    pub marks_more : entry_at table i ≢ kept → marks_from i ≡ i ∷ marks_from (i + 1)
-    marks_more m = rw (left_more i (length table / 2) h, ne_eqb (entry_at table i) kept m)
-
-    -- a sequence that is kept is passed over
-    pub marks_next : entry_at table i ≡ kept → marks_from i ≡ marks_from (i + 1)
-    marks_next e = rw (left_more i (length table / 2) h, eq-eqb (entry_at table i) kept e)
-
-  -- none are left
-  pub marks-end : (i : ℕ) → length table / 2 ≤ i → marks_from i ≡ []
-  marks-end i h = rw (left_none i (length table / 2) h)
+      go : (i n : ℕ) → filter (marks table) (range_with_len i n) ≡ keep (marks table) (numbers_from i n)
+      go i zero = refl
+      go i (suc n) = take_or_pass (marks table i) i _ _ (rw (add-one i) (go (suc i) n))
 
   module _ (set : RuleSet) where
     -- the lines of the entries from place i on

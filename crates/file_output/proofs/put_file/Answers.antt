@@ -9,7 +9,8 @@ use Rattle.model_spec.specs.declared.RuleSet.{RuleSet}
 use Rattle.files_spec.specs.Text.{bytes, line_feed, numeral, line}
 use Rattle.files_spec.specs.File.{rule_text, render}
 use Rattle.output_laws.specs.How.Overlay.{shown_numeral, list_text}
-use Rattle.output_laws.proofs.OverlayLaws.{shown-number, laid-append}
+use Rattle.output_laws.proofs.OverlayLaws.{shown-number}
+use Rattle.output_laws.proofs.PageLaws.{page-append}
 use Rattle.output_laws.proofs.WriteLoopLaws.{list-line}
 use Rattle.file_output.proofs.put_file.Goals as goal
 
@@ -33,9 +34,9 @@ returns c =
     let positions : set.positions ≤ 255 = omega arith in
     let count : set.count ≤ 255 = omega arith in
     rw (pieces set positions count)
-    (laid-append
-    (laid-append
-    (laid-append c.put_number_line-first.ensures
-    (laid-append c.put_word-second.ensures c.put_numbers-third.ensures))
-    c.put_number_line-fourth.ensures)
+    (page-append
+    (page-append
+    (page-append c.put_number_line.ensures
+    (page-append c.put_word.ensures c.put_numbers.ensures))
+    c.put_number_line-2.ensures)
     c.put_rules.ensures)

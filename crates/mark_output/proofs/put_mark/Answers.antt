@@ -1,13 +1,13 @@
 -- `mark_output::put_mark` meets its contract: nothing, or four lines, laid one after the other.
 use Rattle.files_spec.specs.Text.{line}
-use Rattle.output_laws.proofs.OverlayLaws.{laid_none, laid-append}
+use Rattle.output_laws.proofs.PageLaws.{page_none, page-append}
 use Rattle.report_laws.proofs.MarkLoopLaws.{entry_kept, entry-marked}
 use Rattle.mark_output.proofs.put_mark.Goals as goal
 
 pub returns-then-entry-eq-KEPT : goal.returns-then-entry-eq-KEPT
 returns-then-entry-eq-KEPT c =
     let s = c.args in
-    rw (entry_kept s.set s.index s.entry c.if-entry-eq-KEPT.true) (laid_none _ _)
+    rw (entry_kept s.set s.index s.entry c.if-entry-eq-KEPT.true) (page_none _ _)
 
 pub returns : goal.returns
 unfolding line
@@ -15,8 +15,8 @@ returns c =
     let s = c.args in
     let at = c.touched_at-positions.ensures in
     rw (entry-marked s.set s.index s.entry c.if-entry-eq-KEPT.false)
-    (laid-append
-    (laid-append
-    (laid-append c.put_sequence_line-witness.ensures c.put_sequence_line-reads.ensures)
-    (rw at at c.put_positions-writes.ensures))
+    (page-append
+    (page-append
+    (page-append c.put_sequence_line.ensures c.put_sequence_line-2.ensures)
     (rw at at c.put_positions.ensures))
+    (rw at at c.put_positions-2.ensures))

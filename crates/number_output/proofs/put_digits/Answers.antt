@@ -1,6 +1,6 @@
 -- `number_output::put_digits` meets its contract: one, two or three digits, laid one after the other.
 use Rattle.files_spec.proofs.TextLaws.{numeral_one, numeral_two, numeral_three}
-use Rattle.output_laws.proofs.OverlayLaws.{laid-append}
+use Rattle.output_laws.proofs.PageLaws.{page-append}
 use Rattle.number_output.proofs.put_digits.Goals as goal
 
 pub returns-then-n-lt10 : goal.returns-then-n-lt10
@@ -9,9 +9,9 @@ returns-then-n-lt10 c = rw (numeral_one c.args.n c.if-n-lt10.true) c.put_digit.e
 pub returns-then-n-lt100 : goal.returns-then-n-lt100
 returns-then-n-lt100 c =
     rw (numeral_two c.args.n c.if-n-lt10.false c.if-n-lt100.true)
-    (laid-append c.put_digit-second.ensures c.put_digit-then-n-lt100.ensures)
+    (page-append c.put_digit-then-n-lt100.ensures c.put_digit-then-n-lt100-2.ensures)
 
 pub returns : goal.returns
 returns c =
     rw (numeral_three c.args.n c.if-n-lt100.false)
-    (laid-append (laid-append c.put_digit-second-2.ensures c.put_digit-third.ensures) c.put_digit-2.ensures)
+    (page-append (page-append c.put_digit-2.ensures c.put_digit-3.ensures) c.put_digit-4.ensures)

@@ -1,6 +1,7 @@
 -- What a function that lays text over a buffer leaves there. No answer mentions it: it ties the functions to the
 -- definitions of the texts.
 use Rattle.std.specs.Prelude.{◌≡◌, List, [], ◌∷◌, ◌++◌, map, ℕ, ◌+◌, ◌-◌, min, length, take, set}
+use Rattle.std.specs.Borrow.{MutBor}
 use Rattle.files_spec.specs.Text.{comma_list, line_feed, numeral}
 
 -- the largest place, the top of the machine's numbers: no buffer reaches it
@@ -21,6 +22,12 @@ overlaid at (b ∷ bytes) text = overlaid (place_after at 1) bytes (set text at 
 pub record Laid (at : ℕ) (bytes before : List ℕ) (next : ℕ) (after : List ℕ) : Type 0 where
   pub place : next ≡ place_after at (length bytes)
   pub text : after ≡ overlaid at bytes before
+
+-- the same of a page: its buffer, which stays the same one, and the place of its next byte
+pub record LaidOn (at : ℕ) (bytes : List ℕ) (before : MutBor (List ℕ)) (next : ℕ) (after : MutBor (List ℕ))
+    : Type 0 where
+  pub same : after.ghost_name ≡ before.ghost_name
+  pub laid : Laid at bytes before.now next after.now
 
 -- a number as it is laid: its numeral, that of 999 for a larger one
 abbrev pub shown_numeral : ℕ → List ℕ

@@ -1,7 +1,7 @@
 -- `position_output::put_positions` meets its contract. The invariant: the members before place k stand at the array's
 -- front.
 use mathlib.Core.Path.{◌≡◌}
-use Prim.Native.Nat.{◌-◌, ◌≤◌}
+use Prim.Native.Nat.{◌≤◌}
 use lib.ListN.{length}
 use Rattle.report_laws.proofs.PositionLoopLaws.{Written}
 use Rattle.position_output.proofs.put_positions.Given as goal
@@ -10,8 +10,4 @@ abbrev pub invariant-loop-k : goal.invariant-loop-k
 invariant-loop-k l =
     (length l.positions ≡ 16)
     × (l.count ≤ l.k)
-    × (l.k ≤ 16)
     × Written l.members l.k l.count l.positions
-
-abbrev pub decreases-loop-k : goal.decreases-loop-k
-decreases-loop-k l = 16 - l.k

@@ -7,7 +7,8 @@ use Rattle.model_spec.specs.declared.Rule.{Rule}
 use Rattle.files_spec.specs.Text.{bytes, line_feed, line}
 use Rattle.files_spec.specs.File.{entry_text, rule_text}
 use Rattle.output_laws.specs.How.Overlay.{shown_numeral, list_text}
-use Rattle.output_laws.proofs.OverlayLaws.{shown-number, laid-append}
+use Rattle.output_laws.proofs.OverlayLaws.{shown-number}
+use Rattle.output_laws.proofs.PageLaws.{page-append}
 use Rattle.output_laws.proofs.WriteLoopLaws.{list-line}
 use Rattle.rule_output.proofs.put_rule.Goals as goal
 
@@ -29,6 +30,6 @@ returns c =
     let rule = c.args.rule in
     let byte : rule.cost ≤ 255 = omega arith in
     rw (pieces c.args.positions rule byte)
-    (laid-append
-    (laid-append c.put_number_line-first.ensures c.put_entries_line-second.ensures)
-    c.put_entries_line.ensures)
+    (page-append
+    (page-append c.put_number_line.ensures c.put_entries_line.ensures)
+    c.put_entries_line-2.ensures)

@@ -7,7 +7,8 @@ use lib.ListN.{length}
 use Rattle.model_spec.specs.declared.RuleSet.{RuleSet}
 use Rattle.files_spec.specs.Text.{bytes, line_feed, line}
 use Rattle.output_laws.specs.How.Overlay.{shown_numeral}
-use Rattle.output_laws.proofs.OverlayLaws.{shown-number, laid-append}
+use Rattle.output_laws.proofs.OverlayLaws.{shown-number}
+use Rattle.output_laws.proofs.PageLaws.{page-append}
 use Rattle.report_laws.specs.How.Marks.{table_marks, marks_text, table_text}
 use Rattle.table_output.proofs.put_table.Goals as goal
 
@@ -23,11 +24,11 @@ pieces set table number byte e = rw (shown-number set.count (omega arith), e)
 
 pub returns : goal.returns
 returns c =
-    let byte : c.args.set.count ≤ 255 = omega (arith, c.struct_known-1.given.1.1.0.fits) in
-    let found = c.count_marks-number in
+    let byte : c.args.set.count ≤ 255 = omega arith in
+    let found = c.count_marks in
     rw (pieces c.args.set c.args.table.now found.result byte found.ensures)
-    (laid-append
-    (laid-append
-    (laid-append c.put_number_line-rules.ensures c.put_number_line-marks.ensures)
-    c.put_number_line-first.ensures)
+    (page-append
+    (page-append
+    (page-append c.put_number_line.ensures c.put_number_line-2.ensures)
+    c.put_number_line-3.ensures)
     c.put_marks.ensures)
