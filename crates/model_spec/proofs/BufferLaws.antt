@@ -1,30 +1,15 @@
--- Laws of filled buffers: one place more, past the end, throughout, and a part that is filled.
+-- Laws of filled buffers: throughout, and a part that is filled.
 -- Assumes nothing.
 use mathlib.Core.Path.{◌≡◌, ap, ◌∙◌}
 use mathlib.Core.List.{List, [], append-nil}
-use Prim.Native.Nat.{ℕ, suc, ◌+◌, ◌-◌, ◌≤◌, ◌<◌, min}
-use native.Mathlib.Numerals.{add-one}
+use Prim.Native.Nat.{ℕ, ◌-◌, min}
 use native.Mathlib.Omega.{arith}
 use borrow.Rule.Slice.PartMut.{put_mid}
-use lib.ListN.{length, take, drop, set, replicate, length-set, length-drop, drop_of_length-le}
-use lib.Seq.{take_all, take-suc-set, append_snoc}
+use lib.ListN.{length, take, drop, replicate, length-drop, drop_of_length-le}
 use Rattle.std.proofs.lemmas.List.{take_min}
 use Rattle.model_spec.specs.How.Buffers.{filled_from}
 
 module _ (byte : ℕ) (buffer : List ℕ) where
-  -- one place more
-  pub filled_more : (i : ℕ) → i < length buffer → filled_from byte (i + 1) (set buffer i byte) ≡ filled_from byte i buffer
-  unfolding filled_from
-  filled_more i h =
-      let e : length buffer - i ≡ suc (length buffer - suc i) = omega arith in
-      rw (add-one i, length-set buffer i byte, take-suc-set buffer i byte h, e)
-      (append_snoc (take i buffer) byte (replicate (length buffer - suc i) byte))
-
-  -- past the end there is nothing to fill
-  pub filled_past : (i : ℕ) → length buffer ≤ i → filled_from byte i buffer ≡ buffer
-  unfolding filled_from
-  filled_past i h = let e : length buffer - i ≡ 0 = omega arith in rw (e, take_all i buffer h) (append-nil buffer)
-
   -- throughout
   pub filled-whole : filled_from byte 0 buffer ≡ replicate (length buffer) byte
   unfolding filled_from

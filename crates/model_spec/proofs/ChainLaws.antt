@@ -2,7 +2,7 @@
 -- Assumes nothing.
 use Prim.Native.Nat.{ℕ, zero, suc, ◌+◌, ◌≤◌}
 use mathlib.Core.Path.{◌≡◌, refl, sym, ap, subst, ◌∙◌}
-use mathlib.Core.Bool.{Bool, true, false, ◌&&◌, ◌||◌}
+use mathlib.Core.Bool.{Bool, true, false, not, ◌&&◌, ◌||◌}
 use mathlib.Core.List.{List, [], ◌∷◌, map}
 use native.Mathlib.Numerals.{add-one}
 use native.Mathlib.Omega.{arith}
@@ -13,7 +13,14 @@ use denote.Param.Members.{Mut}
 use Rattle.std.specs.Array.{IsMapOf, MapsFrom}
 use Rattle.std.specs.Cmp.Lexicographic.{pointwise}
 use Rattle.std.specs.Fn.{Called}
-use Rattle.std.specs.List.{list_all, list_any, range_with_len, zip}
+use Rattle.std.specs.Iterator.{YieldsThen}
+use Rattle.std.specs.List.{FoldsTo, list_all, list_any, range_with_len, zip}
+use Rattle.std.specs.Option.{MatchOption}
+use Rattle.std.specs.Prelude.{Option}
+use Rattle.std.specs.declared.ops.Range.{Range}
+use Rattle.std.proofs.iter.Yields.{nat_range_steps}
+use Rattle.std.proofs.lemmas.Iterator.{YieldsList-from_range}
+use Rattle.std.proofs.lemmas.Iterator.Search.{all_from_yields_List, any_from_yields_List}
 use Rattle.std.proofs.lemmas.List.Recursion.{same_from_clauses}
 use Rattle.theory_spec.specs.Lists.{any, every, numbers_from, same}
 
@@ -37,6 +44,29 @@ module _ (p : ℕ → Bool) (i n : ℕ) where
 
   pub any_in_range : list_any p (range_with_len i n) ≡ any p (numbers_from i n)
   any_in_range = any_is p (range_with_len i n) ∙ ap (any p) (numbers_are i n)
+
+-- what `all` and `any` answer over the numbers below n, where the closure f stays as it is and computes the test
+module _ {F : Type 0} (g : Mut F (ℕ × Unit {0}) Bool) (test : ℕ → Bool) (n : ℕ) {s : Range ℕ} (u : Range ℕ) (f : F)
+    (r : Bool) (below : s ≡ record { start = 0; end = n }) where
+  abbrev Computes : Type 0
+  Computes = (x : ℕ) (b : Bool) (q : F) → Called g f (x, tt) b q → (q ≡ f) × (b ≡ test x)
+
+  -- calls at the numbers in turn, each answered by b, to the end or to one that is answered otherwise
+  abbrev Ran : Bool → Type 0
+  Ran b =
+      (xs : List ℕ) × (o : Option ℕ) × (j : F) × YieldsThen nat_range_steps s xs o u
+      × FoldsTo (λ p x q. Called g p (x, tt) b q) f xs j
+      × MatchOption o (r ≡ b) (λ x. (r ≡ not b) × ((h : F) × Called g j (x, tt) (not b) h))
+
+  pub all_below : Ran true → Computes → r ≡ every test (numbers_from 0 n)
+  all_below ran computes =
+      all_from_yields_List test u f r ran (YieldsList-from_range 0 n n below (omega arith)) computes
+      ∙ every_in_range test 0 n
+
+  pub any_below : Ran false → Computes → r ≡ any test (numbers_from 0 n)
+  any_below ran computes =
+      any_from_yields_List test u f r ran (YieldsList-from_range 0 n n below (omega arith)) computes
+      ∙ any_in_range test 0 n
 
 -- a test of the numbers after the first is one of their predecessors
 any_shift : (p : ℕ → Bool) (i n : ℕ) → any p (numbers_from (suc i) n) ≡ any (λ j. p (suc j)) (numbers_from i n)

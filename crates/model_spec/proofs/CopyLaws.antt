@@ -2,13 +2,12 @@
 -- copy, and the others what they held.
 -- Assumes nothing.
 use mathlib.Core.Path.{◌≡◌, sym, ap, ◌∙◌}
-use mathlib.Core.List.{List, ◌++◌, map, append-nil}
+use mathlib.Core.List.{List, ◌++◌}
 use Prim.Native.Nat.{ℕ, suc, ◌+◌, ◌-◌, ◌≤◌, ◌<◌}
 use native.Mathlib.Numerals.{add-one}
 use native.Mathlib.Omega.{arith}
-use lib.ListN.{length, get_or, set, take, drop, replicate, length-map, length-replicate, replicate-append-replicate}
-use lib.ListN.{drop_of_length-le, get_or-map}
-use lib.Seq.{length-take-le, take-length, take_all, take-suc, drop-cons, drop_at, append_snoc, set_at}
+use lib.ListN.{length, get_or, set, take, drop, replicate, length-replicate, replicate-append-replicate}
+use lib.Seq.{length-take-le, take-length, take-suc, drop-cons, drop_at, append_snoc, set_at}
 use Rattle.theory_spec.specs.Lists.{padded}
 
 -- after i turns
@@ -37,18 +36,3 @@ copied-padded n x new i l h e c = c ∙ rw (e, take-length new) (ap (λ r. new +
         ∙ ap (drop (length new)) (sym (replicate-append-replicate (length new) (n - length new) x))
         ∙ drop_at (replicate (length new) x) (replicate (n - length new) x) (length new)
         (length-replicate (length new) x)
-
--- a row of what f makes of each element of a list
-module _ {A B : Type 0} (f : A → B) (old : List B) (all : List A) (i : ℕ) (l : List B)
-    (e : l ≡ copied old (map f all) i) where
-  -- one turn more
-  pub row_more : (z : A) → i < length old → i < length all → set l i (f (get_or all i z)) ≡ copied old (map f all) (i + 1)
-  row_more z h k =
-      copied_more old (map f all) i l (f (get_or all i z)) (f z) h (omega (arith, length-map all f)) e
-      (sym (get_or-map f all i z))
-
-  -- after the last turn it is whole
-  pub row-whole : length old ≤ i → length all ≤ i → l ≡ map f all
-  row-whole h k =
-      e ∙ rw (take_all i (map f all) (omega (arith, length-map all f)), drop_of_length-le old {i = i} h)
-      (append-nil (map f all))

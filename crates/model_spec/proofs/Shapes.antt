@@ -1,14 +1,13 @@
 -- What owning a rule set tells of its rules: there are as many as the type says.
 -- A proof hands over `c.good.0` of a parameter, or `.ok` of a call's result.
 -- Assumes nothing.
-use mathlib.Core.Path.{◌≡◌, sym, ◌∙◌}
+use mathlib.Core.Path.{◌≡◌}
 use mathlib.Core.List.{List}
-use lib.ListN.{length, length-map}
+use lib.ListN.{length}
 use mir.Val.{Val}
 use denote.Laws.{Is}
 use denote.Struct.Laws as LL
 use Rattle.model_spec.specs.declared.RuleSet.{RuleSet}
-use Rattle.model_spec.specs.contracts.Rule as R
 use Rattle.model_spec.specs.contracts.RuleSet as T
 use Rattle.model_spec.proofs.RuleSet.TheLaws as T'
 
