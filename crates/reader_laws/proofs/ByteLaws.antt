@@ -29,13 +29,15 @@ eqb_comm m n =
 
 -- the word stands at the front of the text, or it does not
 word_read : (word text : List ℕ)
-    → literal word text ≡ cond (pointwise eqb (take (length word) text) word) (parsed tt (drop (length word) text)) (refused 1)
+    → literal word text
+    ≡ cond (pointwise eqb (take (length word) text) word) (parsed tt (drop (length word) text)) (refused 1)
 unfolding literal
 word_read [] text = refl
 word_read (w ∷ word) [] = refl
 word_read (w ∷ word) (c ∷ text) = rw (eqb_comm w c) (go (eqb c w) _ _ _ (word_read word text))
   where
-    go : (t p : Bool) {X : Parsed (Unit {0})} (Y Z : Parsed (Unit {0})) → X ≡ cond p Y Z → cond t X Z ≡ cond (t && p) Y Z
+    go : (t p : Bool) {X : Parsed (Unit {0})} (Y Z : Parsed (Unit {0})) → X ≡ cond p Y Z
+        → cond t X Z ≡ cond (t && p) Y Z
     go true p Y Z e = e
     go false p Y Z e = refl
 

@@ -16,7 +16,8 @@ use Rattle.files_spec.specs.Reading.{refused_unless, entry, condition_item, effe
 use Rattle.reader_laws.specs.How.Parts.{condition_entry, effect_entry}
 
 -- a place up to i is looked at in the first i + 1 places
-look_front : (l : List ℕ) (i j e : ℕ) → (leb j i && eqb (get_or (take (suc i) l) j 0) e) ≡ (leb j i && eqb (get_or l j 0) e)
+look_front : (l : List ℕ) (i j e : ℕ)
+    → (leb j i && eqb (get_or (take (suc i) l) j 0) e) ≡ (leb j i && eqb (get_or l j 0) e)
 look_front l i j e = go (leb j i) refl
   where
     go : (b : Bool) → leb j i ≡ b → (b && eqb (get_or (take (suc i) l) j 0) e) ≡ (b && eqb (get_or l j 0) e)
@@ -36,7 +37,8 @@ module _ (positions : ℕ) (sizes : List ℕ) where
 
   -- an entry of an `if` line after the first i of an array
   pub condition_at : (before : List ℕ) (i ending : ℕ) (text : List ℕ) → positions ≤ 16 → i < length before
-      → condition_item positions sizes (take i before) ending text ≡ condition_entry positions sizes before i ending text
+      → condition_item positions sizes (take i before) ending text
+      ≡ condition_entry positions sizes before i ending text
   unfolding condition_item condition_entry
   condition_at before i ending text p h =
       let m : min positions 16 ≡ positions = omega arith in

@@ -8,7 +8,8 @@ use native.Mathlib.Omega.{arith}
 use lib.ListN.{length, get_or, take, set, replicate, length-set, length-replicate, get_or-replicate}
 use lib.Seq.{get_or-set_other, take-suc-set}
 use Rattle.theory_spec.specs.Lists.{padded}
-use Rattle.files_spec.specs.Reading.{Parsed, refused, parsed, and_read, Item, ending_of, items_after, rule_lines, rules_after}
+use Rattle.files_spec.specs.Reading.{Parsed, refused, parsed, and_read}
+use Rattle.files_spec.specs.Reading.{Item, ending_of, items_after, rule_lines, rules_after}
 use Rattle.files_spec.proofs.PaddedLaws.{padded_iff}
 
 -- an item is read after those before it, and told how many follow it

@@ -14,7 +14,9 @@ module _ (digits : List ℕ) where
   -- of two or three digits the first is judged
   several : 2 ≤ length digits → length digits ≤ 3 → not (eqb (get_or digits 0 0) 48) ≡ is_number digits
   unfolding is_number
-  several h k = rw (le-leb 1 (length digits) (omega arith), le-leb (length digits) 3 k, ne_eqb (length digits) 1 (omega arith))
+  several h k =
+      let n = length digits in
+      rw (le-leb 1 n (omega arith), le-leb n 3 k, ne_eqb n 1 (omega arith))
 
   -- without a digit there is no number, nor with more than three
   too_few : length digits < 1 → false ≡ is_number digits
