@@ -15,6 +15,7 @@ pub fn put_positions(page: &mut Page<'_>, key: &[u8], members: u16)
     ensures { LaidOn page.old.at (key.now ++ comma_list (position_items members) ++ (line_feed ∷ []))
         page.old.text page.new.at page.new.text }
 {
+    // an array and a count: there is no heap, and a public function may ask nothing of an iterator that it is given
     let mut positions = [0u8; PLACE_COUNT];
     let mut count: usize = 0;
     for k in 0..PLACE_COUNT {

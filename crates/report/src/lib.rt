@@ -37,7 +37,8 @@ fn put_set(page: &mut Page<'_>, set: RuleSet)
     put_built(page, set, &mut table[..size]);
 }
 
-// Lays the listing of what reading a file gave: a refused one's number alone.
+// Lays the listing of what reading a file gave: a refused one's number alone. The number and the set are those of
+// `reader::read`, whose `Reading` may not change.
 fn put_listing(page: &mut Page<'_>, outcome: u8, set: RuleSet)
     requires { outcome ≡ 0 → Valid set }
     ensures { LaidOn page.old.at
