@@ -1,24 +1,24 @@
 // The builder of pruning tables.
 #![tactic(auto)]
 
-ghost use Rattle.std.specs.Prelude.{◌≡◌, ◌*◌, ◌≤◌, ◌<◌, length};
-ghost use Rattle.model_spec.specs.Refusals.{first_refusal};
+ghost use Rattle.std.specs.Prelude.{◌≡◌, ◌*◌, ◌≤◌, ◌<◌, length, IfOk};
 ghost use Rattle.model_spec.specs.Rules.{sequence_cost};
 ghost use Rattle.model_spec.specs.Validity.{WellFormed};
 ghost use Rattle.macros_spec.specs.Composition.{composed, as_vectors};
 ghost use Rattle.tables_spec.specs.Table.{table_entries, built_table, built_entry};
-ghost use Rattle.tables_spec.specs.Answers.{shape_causes, built_with, built_buffer, BuildMeaning};
+ghost use Rattle.tables_spec.specs.Answers.{build_outcome, built_buffer, BuildMeaning};
+ghost use Rattle.tables_laws.specs.How.Outcomes.{outcome_of};
 ghost use Rattle.tables_laws.specs.How.ShortSequences.{short_sequence};
-ghost use Rattle.unions_spec.specs.Unions.{table_touched, answer_with, build_answer, UnionMeaning};
+ghost use Rattle.unions_spec.specs.Unions.{table_touched, build_answer, UnionMeaning};
 
-use buffers::fill_from;
 use macros_spec::Touched;
 use model_spec::RuleSet;
+use refusals_spec::Refusal;
 use sequences::profile_at;
 use table_sizes::shape_refusal;
 use tables::KEPT;
 use tables_laws::Profile;
-use unions::{refused, with_mark};
+use unions::{answer, with_mark};
 use unions_spec::TableAnswer;
 use validity::is_valid;
 use wide_positions::wide_positions;
@@ -35,11 +35,11 @@ fn entry_for(set: RuleSet, index: usize, own: Profile) -> usize
     ensures { (result ≡ built_entry set 3 index)
         × (result < 65536) }
 {
-    let found = smallest_witness(set, own.vectors, own.cost);
-    if found == index {
+    let witness = smallest_witness(set, own.vectors, own.cost).unwrap_or(KEPT);
+    if witness == index {
         return KEPT;
     }
-    found
+    witness
 }
 
 // Writes every entry, in order, and gives what the marked sequences read and write. `reach` is for the contract alone:
@@ -52,38 +52,33 @@ fn write_entries(set: RuleSet, reach: usize, table: &mut [u8]) -> Touched
         × (result ≡ table_touched set reach (built_table set reach)) }
 {
     let wide = wide_positions(set);
-    let count = table.len() / 2;
     let mut touched = Touched {
         reads: 0,
         writes: 0,
     };
-    let mut i: usize = 0;
-    while i < count {
+    for i in 0..table.len() / 2 {
         let own = profile_at(set, i);
         let entry = entry_for(set, i, own);
         table[2 * i] = (entry % 256) as u8;
         table[2 * i + 1] = (entry / 256) as u8;
-        touched = with_mark(touched, wide, entry, own.vectors);
-        i += 1;
+        if entry != KEPT {
+            touched = with_mark(touched, wide, own.vectors);
+        }
     }
     touched
 }
 
-// Builds a table once the set is judged.
-fn build_for(set: RuleSet, reach: usize, entries: &mut [u8]) -> TableAnswer
-    requires { WellFormed set }
-    ensures { let size = length entries.old in
-        let outcome = first_refusal (shape_causes set reach size) in
-        (result ≡ answer_with set reach (built_table set reach) outcome)
-        × (entries.new ≡ built_with set reach size outcome) }
+// Builds a table; a refused one is left as it is.
+fn build(set: RuleSet, reach: usize, table: &mut [u8]) -> Result<Touched, Refusal>
+    ensures outcome { outcome_of result ≡ build_outcome set reach (length table.old) }
+    ensures built { IfOk result (λ touched. (table.new ≡ built_table set reach)
+        × (touched ≡ table_touched set reach (built_table set reach))) }
 {
-    let outcome = shape_refusal(set, reach, entries.len());
-    if outcome != 0 {
-        fill_from(entries, 0, 0);
-        return refused(outcome);
+    if !is_valid(set) {
+        return Err(Refusal::RuleSet);
     }
-    let touched = write_entries(set, reach, entries);
-    TableAnswer { outcome, touched }
+    shape_refusal(set, reach, table.len())?;
+    Ok(write_entries(set, reach, table))
 }
 
 // Builds the table of a rule set for a reach: each entry is the smallest witness of its sequence, or 65535. Gives the
@@ -95,9 +90,9 @@ pub fn build_table(set: RuleSet, reach: usize, table: &mut [u8]) -> TableAnswer
         × BuildMeaning set reach size result.outcome table.new
         × UnionMeaning set reach table.new result }
 {
-    if !is_valid(set) {
-        fill_from(table, 0, 0);
-        return refused(7);
+    let built = build(set, reach, table);
+    if built.is_err() {
+        table.fill(0);
     }
-    build_for(set, reach, table)
+    answer(built)
 }

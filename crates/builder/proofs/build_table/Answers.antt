@@ -1,78 +1,77 @@
--- `builder::build_table` meets its contract: what either way out gives and leaves is the definitions', which have their
--- meaning.
+-- `builder::build_table` meets its contract: the answer and the table are the definitions', which have their meaning.
 use mathlib.Core.Path.{◌≡◌, sym, ap, ◌∙◌}
-use mathlib.Core.Logic.{◌≢◌}
-use mathlib.Core.Bool.{true}
+use native.Mathlib.Omega.{arith}
+use mathlib.Core.Bool.{true, false, true≢false}
 use mathlib.Core.List.{List}
 use Prim.Native.Nat.{ℕ}
-use native.Mathlib.Omega.{arith}
-use lib.ListN.{length}
-use Rattle.theory_spec.proofs.ListLaws.{not-both}
-use Rattle.model_spec.specs.Refusals.{first_refusal}
-use Rattle.model_spec.specs.Validity.{valid}
+use lib.ListN.{length, replicate}
+use Rattle.std.specs.Prelude.{Result, Ok, Err, IfOk, is_err}
+use Rattle.refusals_spec.specs.declared.Refusal.{Refusal}
 use Rattle.model_spec.specs.declared.RuleSet.{RuleSet}
-use Rattle.model_spec.proofs.BufferLaws.{filled-whole}
-use Rattle.model_spec.proofs.ValidityLaws.{valid_iff}
+use Rattle.macros_spec.specs.declared.Touched.{Touched}
 use Rattle.tables_spec.specs.Table.{built_table}
-use Rattle.tables_spec.specs.Answers.{shape_causes, build_outcome, built_buffer, BuildMeaning}
-use Rattle.tables_spec.proofs.AnswerLaws.{build-judged, built-refused, build_meaning}
-use Rattle.unions_spec.specs.Unions.{refused_table, answer_with, build_answer, UnionMeaning}
+use Rattle.tables_spec.specs.Answers.{build_outcome, built_buffer, BuildMeaning}
+use Rattle.tables_spec.proofs.AnswerLaws.{built-whole, built-refused, build_meaning}
+use Rattle.tables_laws.specs.How.Outcomes.{outcome_of}
+use Rattle.tables_laws.proofs.AnswerLaws.{answered}
+use Rattle.tables_laws.proofs.OutcomeLaws.{number_positive}
+use Rattle.unions_spec.specs.Unions.{table_touched, answer_with, build_answer, UnionMeaning}
 use Rattle.unions_spec.specs.declared.TableAnswer.{TableAnswer}
-use Rattle.unions_spec.proofs.UnionLaws.{answer-refused, build_unions}
+use Rattle.unions_spec.proofs.UnionLaws.{build_unions}
 use Rattle.builder.proofs.build_table.Goals as goal
-
--- ── The definitions ──────────────────────────────────────────────────────────────────────────────
+use Rattle.builder.proofs.build_table.Goals.{then-is_err, else-is_err}
 
 module _ (set : RuleSet) (reach size : ℕ) where
-  built-meaning : BuildMeaning set reach size (build_answer set reach size).outcome (built_buffer set reach size)
+  -- the definitions' answer and table have their meaning
+  answers : (r : TableAnswer) (table : List ℕ)
+      → r ≡ answer_with set reach (built_table set reach) (build_outcome set reach size)
+      → table ≡ built_buffer set reach size
+      → (r ≡ build_answer set reach size) × (table ≡ built_buffer set reach size)
+      × BuildMeaning set reach size r.outcome table
+      × UnionMeaning set reach table r
   unfolding build_answer
-  built-meaning = build_meaning set reach size
+  answers r table e t =
+      (e, t, rw (e, t) (build_meaning set reach size), rw (e, t) (build_unions set reach size))
 
-  -- a refusal gives what the definition has
-  build-refused : (given : ℕ) → given ≡ build_outcome set reach size → build_outcome set reach size ≢ 0
-      → (r : TableAnswer) → r ≡ refused_table given → r ≡ build_answer set reach size
-  unfolding build_answer
-  build-refused given e n r a =
-      answer-refused set reach (built_table set reach) given (build_outcome set reach size) e n r a
+  -- what was found, and left
+  abbrev Built : Result Touched Refusal → List ℕ → Type 0
+  Built found table =
+      IfOk found (λ touched. (table ≡ built_table set reach)
+      × (touched ≡ table_touched set reach (built_table set reach)))
 
-  -- and so does what is given once the set is judged
-  judged-answer : valid set ≡ true → (r : TableAnswer)
-      → r ≡ answer_with set reach (built_table set reach) (first_refusal (shape_causes set reach size))
-      → r ≡ build_answer set reach size
-  unfolding build_answer
-  judged-answer v r e = e ∙ ap (answer_with set reach (built_table set reach)) (sym (build-judged set reach size v).0)
+  unions : (found : Result Touched Refusal) (table : List ℕ) → Built found table
+      → IfOk found (λ touched. touched ≡ table_touched set reach (built_table set reach))
+  unions (Ok touched) table h = h.1
+  unions (Err refusal) table h = tt
 
--- the definitions' answer and table have their meaning
-answers : (set : RuleSet) (reach size : ℕ) (r : TableAnswer) (table : List ℕ) → r ≡ build_answer set reach size
-    → table ≡ built_buffer set reach size
-    → (r ≡ build_answer set reach size) × (table ≡ built_buffer set reach size)
-    × BuildMeaning set reach size r.outcome table
-    × UnionMeaning set reach table r
-answers set reach size r table e t =
-    (e, t, rw (e, t) (built-meaning set reach size), rw (e, t) (build_unions set reach size))
+  left : (found : Result Touched Refusal) (table : List ℕ) → Built found table → is_err found ≡ false
+      → outcome_of found ≡ build_outcome set reach size → table ≡ built_buffer set reach size
+  left (Ok touched) table h t e = h.0 ∙ sym (built-whole set reach size (sym e))
+  left (Err refusal) table h t e = absurd (true≢false t)
 
--- ── The proof ────────────────────────────────────────────────────────────────────────────────────
-
-pub returns-then-not-is_valid : goal.returns-then-not-is_valid
-returns-then-not-is_valid c =
-    let s = c.args in
-    let invalid = sym c.is_valid.ensures.0 ∙ c.if-not-is_valid.true in
-    let size = length s.table.now in
-    let e = (build_meaning s.set s.reach size).not_valid.1 (λ v. not-both ((valid_iff s.set).1 v) invalid) in
-    let no : build_outcome s.set s.reach size ≢ 0 = λ z. omega (arith, e, z) in
-    answers s.set s.reach size _ _ (build-refused s.set s.reach size 7 (sym e) no _ c.refused.ensures)
-    (c.fill_from.ensures ∙ filled-whole 0 s.table.now ∙ sym (built-refused s.set s.reach size no))
-
-pub build_for-requires : goal.build_for-requires
-build_for-requires c =
-    let s = c.args in
-    ((valid_iff s.set).0 (sym c.is_valid.ensures.0 ∙ c.if-not-is_valid.false)).formed
+  cleared : (found : Result Touched Refusal) (table : List ℕ) → is_err found ≡ true
+      → outcome_of found ≡ build_outcome set reach size → table ≡ replicate size 0 → table ≡ built_buffer set reach size
+  cleared (Ok touched) table t e z = absurd (true≢false (sym t))
+  cleared (Err refusal) table t e z =
+      z ∙ sym (built-refused set reach size (λ none. number_positive refusal (e ∙ none)))
 
 pub returns : goal.returns
 returns c =
     let s = c.args in
     let size = length s.table.now in
-    let v = sym c.is_valid.ensures.0 ∙ c.if-not-is_valid.false in
-    let w = build-judged s.set s.reach size v in
-    answers s.set s.reach size _ _ (judged-answer s.set s.reach size v _ c.build_for.ensures.0)
-    (c.build_for.ensures.1 ∙ sym w.1)
+    let built = c.build-built in
+    answers s.set s.reach size _ _
+    (answered s.set s.reach (built_table s.set s.reach) _ built.result built.ensures.outcome
+    (unions s.set s.reach size built.result _ built.ensures.built)
+    c.answer.result c.answer.ensures.outcome c.answer.ensures.touched)
+    (elim c.if-is_err.branch [
+      | then-is_err w ↦
+          let same : length built.new.table ≡ size = omega arith in
+          w.table-is
+          ∙ cleared s.set s.reach size built.result _ (sym c.is_err.ensures.value ∙ w.if-is_err.true)
+          built.ensures.outcome (w.fill.ensures.after (λ y e. e) ∙ ap (λ n. replicate n 0) same)
+      | else-is_err w ↦
+          w.table-is
+          ∙ left s.set s.reach size built.result _ built.ensures.built
+          (sym c.is_err.ensures.value ∙ w.if-is_err.false) built.ensures.outcome
+    ])

@@ -2,10 +2,11 @@
 -- built table, and the sets are what the marks so far touch.
 use mathlib.Core.Path.{◌≡◌, refl, sym, ap, ◌∙◌}
 use mathlib.Core.Bool.{not, cond}
+use mathlib.Core.Logic.{◌≢◌}
+use borrow.Author.Tests.{eq-eqb, ne_eqb}
 use Prim.Native.Nat.{ℕ, ◌+◌, ◌<◌}
 use native.Mathlib.Omega.{arith}
 use lib.Dec.{eqb}
-use lib.ListN.{length-set}
 use Rattle.model_spec.specs.declared.RuleSet.{RuleSet}
 use Rattle.macros_spec.specs.Answers.{touched_in}
 use Rattle.macros_spec.specs.declared.Touched.{Touched}
@@ -19,19 +20,26 @@ use Rattle.unions_spec.specs.How.United.{united, united_to}
 use Rattle.unions_spec.proofs.UnionLaws.{united_next, united_all}
 use Rattle.builder.proofs.write_entries.Invariants.{marks}
 use Rattle.builder.proofs.write_entries.Goals as goal
+use Rattle.builder.proofs.write_entries.Goals.{then-entry-ne-KEPT, else-entry-ne-KEPT}
 
 -- ── The unions ───────────────────────────────────────────────────────────────────────────────────
 
 -- with one entry more
-next : (set : RuleSet) (reach i entry : ℕ) (before own after : Touched)
-    → before ≡ united_to set reach (marks set reach) i
-    → entry ≡ built_entry set reach i → own ≡ touched_in set (sequence_at set reach i)
-    → after ≡ cond (not (eqb entry kept)) (united before own) before
-    → after ≡ united_to set reach (marks set reach) (i + 1)
-next set reach i entry before own after b e o a =
-    a
-    ∙ ap (λ n. cond (not (eqb n kept)) (united before own) before) e
-    ∙ united_next set reach (marks set reach) i before own b o
+module _ (set : RuleSet) (reach i entry : ℕ) (e : entry ≡ built_entry set reach i) (before : Touched)
+    (b : before ≡ united_to set reach (marks set reach) i) where
+  keeps : entry ≡ kept → before ≡ united_to set reach (marks set reach) (i + 1)
+  keeps k =
+      let own = touched_in set (sequence_at set reach i) in
+      let same : cond (marks set reach i) (united before own) before ≡ before =
+      rw (eq-eqb (built_entry set reach i) kept (sym e ∙ k)) in
+      sym same ∙ united_next set reach (marks set reach) i before own b refl
+
+  adds : entry ≢ kept → (own : Touched) → own ≡ touched_in set (sequence_at set reach i) → (after : Touched)
+      → after ≡ united before own → after ≡ united_to set reach (marks set reach) (i + 1)
+  adds m own o after a =
+      let more : cond (marks set reach i) (united before own) before ≡ united before own =
+      rw (ne_eqb (built_entry set reach i) kept (λ k. m (e ∙ k))) in
+      a ∙ sym more ∙ united_next set reach (marks set reach) i before own b o
 
 -- with all of them
 all-united : (set : RuleSet) (reach i : ℕ) → i ≡ table_entries set reach
@@ -47,10 +55,8 @@ pub loop-i-init : goal.loop-i-init
 unfolding built_table united_to
 loop-i-init c =
     let s = c.args in (
-      refl,
       entered-start (built_entry s.set s.reach) (table_entries s.set s.reach) s.table.now,
       refl,
-      omega arith,
     )
 
 pub entry_for-entry-requires : goal.entry_for-entry-requires
@@ -62,9 +68,6 @@ entry_for-entry-requires c =
       own.1,
     )
 
-pub bounds-table-i-in-loop-i : goal.bounds-table-i-in-loop-i
-bounds-table-i-in-loop-i c = simp length-set (omega arith)
-
 pub loop-i-preserved : goal.loop-i-preserved
 loop-i-preserved c =
     let l = c.loop-i in
@@ -72,15 +75,20 @@ loop-i-preserved c =
     let h : l.i < table_entries s.set s.reach = omega arith in
     let entry = c.entry_for-entry in
     let e = entry.ensures.0 ∙ near-built s.set s.reach c.requires.1 l.i h in (
-      simp length-set l.invariant.0,
       entered_more (built_entry s.set s.reach) (table_entries s.set s.reach) l.i entry.result l.table
           h (omega arith) e
-          ∙ l.invariant.1,
-      next s.set s.reach l.i entry.result l.touched _ _ l.invariant.2 e
-          (own_touched s.set c.requires.0 s.reach c.requires.1 l.i h c.profile_at-own.result.vectors
-          c.profile_at-own.ensures.0 _ c.wide_positions-wide.ensures)
-          c.with_mark-touched.ensures,
-      omega arith,
+          ∙ l.invariant.0,
+      elim c.if-entry-ne-KEPT.branch [
+        | then-entry-ne-KEPT w ↦
+            w.touched-is
+            ∙ adds s.set s.reach l.i entry.result e l.touched l.invariant.1 w.if-entry-ne-KEPT.true _
+            (own_touched s.set c.requires.0 s.reach c.requires.1 l.i h c.profile_at-own.result.vectors
+            c.profile_at-own.ensures.0 _ c.wide_positions-wide.ensures)
+            _ w.with_mark-touched.ensures
+        | else-entry-ne-KEPT w ↦
+            w.touched-is
+            ∙ keeps s.set s.reach l.i entry.result e l.touched l.invariant.1 w.if-entry-ne-KEPT.false
+      ],
     )
 
 pub returns : goal.returns
@@ -89,6 +97,6 @@ returns c =
     let s = c.args in (
       sym (entered_all (built_entry s.set s.reach) (table_entries s.set s.reach) l.i l.table
           (omega arith) (omega arith))
-          ∙ l.invariant.1,
-      l.invariant.2 ∙ all-united s.set s.reach l.i (omega (arith, l.invariant.3)),
+          ∙ l.invariant.0,
+      l.invariant.1 ∙ all-united s.set s.reach l.i (omega arith),
     )

@@ -2,9 +2,8 @@
 -- built table, and the sets are what the marks so far touch.
 use mathlib.Core.Path.{◌≡◌}
 use mathlib.Core.Bool.{Bool, not}
-use Prim.Native.Nat.{ℕ, ◌-◌, ◌≤◌}
+use Prim.Native.Nat.{ℕ}
 use lib.Dec.{eqb}
-use lib.ListN.{length}
 use Rattle.model_spec.specs.declared.RuleSet.{RuleSet}
 use Rattle.tables_spec.specs.Table.{table_entries, kept, built_entry, built_table}
 use Rattle.tables_laws.proofs.TableLoopLaws.{entered}
@@ -17,10 +16,5 @@ marks set reach k = not (eqb (built_entry set reach k) kept)
 
 abbrev pub invariant-loop-i : goal.invariant-loop-i
 invariant-loop-i l =
-    (length l.table ≡ length l.initial.table)
-    × (entered (built_entry l.set l.reach) (table_entries l.set l.reach) l.i l.table ≡ built_table l.set l.reach)
+    (entered (built_entry l.set l.reach) (table_entries l.set l.reach) l.i l.table ≡ built_table l.set l.reach)
     × (l.touched ≡ united_to l.set l.reach (marks l.set l.reach) l.i)
-    × (l.i ≤ table_entries l.set l.reach)
-
-abbrev pub decreases-loop-i : goal.decreases-loop-i
-decreases-loop-i l = l.count - l.i
