@@ -19,26 +19,19 @@ const WRITES: usize = READS + 2;
 fn number_byte(number: u16, k: usize) -> u8
     ensures { result ≡ get_or (entry_bytes number) k 0 }
 {
-    if k == 0 {
-        return (number % 256) as u8;
-    }
-    if k == 1 {
-        return (number / 256) as u8;
-    }
-    0
+    let bytes = number.to_le_bytes();
+    if k < 2 { bytes[k] } else { 0 }
 }
 
 // Byte i of a macro: condition, effect, cost and both sets; 0 beyond them.
 pub fn macro_byte(m: Macro, touched: Touched, i: usize) -> u8
     ensures { result ≡ get_or (macro_bytes m touched) i 0 }
 {
-    let condition = m.condition;
-    let effect = m.effect;
     if i < PLACE_COUNT {
-        return condition[i];
+        return m.condition[i];
     }
     if i < COST {
-        return effect[i - PLACE_COUNT];
+        return m.effect[i - PLACE_COUNT];
     }
     if i < READS {
         return number_byte(m.cost, i - COST);

@@ -1,21 +1,26 @@
--- `macro_bytes::number_byte` meets its contract, by the tests on the way.
-use mathlib.Core.Path.{sym, ap}
+-- `macro_bytes::number_byte` meets its contract: the two bytes of a number, and 0 beyond them.
+use mathlib.Core.Path.{◌≡◌, sym, ap, ◌∙◌}
+use mathlib.Core.List.{[], ◌∷◌}
+use Prim.Native.Nat.{ℕ, ◌<◌, ◌/◌, ◌%◌}
 use native.Mathlib.Omega.{arith}
 use lib.ListN.{get_or, get_or-eq_default}
+use borrow.Author.Rules.{rules}
+use Rattle.std.specs.Int.{to_le_bytes, w16}
 use Rattle.tables_spec.specs.Table.{entry_bytes}
 use Rattle.macro_bytes.proofs.number_byte.Goals as goal
 
-pub returns-then-k-eq0 : goal.returns-then-k-eq0
-returns-then-k-eq0 c =
-    let s = c.args in
-    ap (λ k. get_or (entry_bytes s.number) k 0) (sym c.if-k-eq0.true)
+two_bytes : (n : ℕ) → n < 65536 → to_le_bytes w16 n ≡ entry_bytes n
+two_bytes n h =
+    let low : n / 1 % 256 ≡ n % 256 = omega arith in
+    let high : n / 256 % 256 ≡ n / 256 = omega arith in
+    cc
 
-pub returns-then-k-eq1 : goal.returns-then-k-eq1
-returns-then-k-eq1 c =
-    let s = c.args in
-    ap (λ k. get_or (entry_bytes s.number) k 0) (sym c.if-k-eq1.true)
+pub returns-then-k-lt2 : goal.returns-then-k-lt2
+returns-then-k-lt2 c =
+    let a = c.args in
+    ap (λ l. get_or l a.k 0) (c.to_le_bytes-bytes.ensures ∙ two_bytes a.number (search rules))
 
-pub returns : goal.returns
-returns c =
-    let s = c.args in
-    sym (get_or-eq_default (entry_bytes s.number) 0 {n = s.k} (omega (arith, c.if-k-eq0.false, c.if-k-eq1.false)))
+pub returns-else-k-lt2 : goal.returns-else-k-lt2
+returns-else-k-lt2 c =
+    let a = c.args in
+    sym (get_or-eq_default (entry_bytes a.number) 0 {n = a.k} (omega (arith, c.if-k-lt2.false)))
