@@ -20,12 +20,7 @@ fn put_explanation(answer: Explanation, out: &mut [u8])
     ensures { out.new ≡ explanation_buffer (length out.old) answer }
 {
     if EXPLANATION_SIZE <= out.len() {
-        let bytes = explanation_bytes(answer);
-        let mut i: usize = 0;
-        while i < EXPLANATION_SIZE {
-            out[i] = bytes[i];
-            i += 1;
-        }
+        out[..EXPLANATION_SIZE].copy_from_slice(&explanation_bytes(answer));
     }
 }
 
