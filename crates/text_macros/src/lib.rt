@@ -20,10 +20,8 @@ fn put_macro(m: Macro, touched: Touched, out: &mut [u8])
     requires { macro_size ≤ length out.old }
     ensures { out.new ≡ padded (length out.old) 0 (macro_bytes m touched) }
 {
-    let mut i: usize = 0;
-    while i < out.len() {
+    for i in 0..out.len() {
         out[i] = macro_byte(m, touched, i);
-        i += 1;
     }
 }
 
