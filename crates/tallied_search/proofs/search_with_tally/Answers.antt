@@ -3,7 +3,7 @@
 use mathlib.Core.Path.{◌≡◌, sym, ap, ◌∙◌}
 use Prim.Native.Nat.{ℕ}
 use Rattle.model_spec.specs.declared.RuleSet.{RuleSet}
-use Rattle.search_spec.specs.Query.{Query, asked}
+use Rattle.search_spec.specs.Query.{Query, query_of}
 use Rattle.search_spec.specs.Searched.{Searched, searched}
 use Rattle.search_spec.specs.Tallies.{Queried, queried, tallied_of}
 use Rattle.search_spec.specs.declared.Tally.{Tally}
@@ -24,7 +24,7 @@ both set query room before after found e h =
 pub returns : goal.returns
 returns c =
     let a = c.args in
-    let query = asked a.reach a.table.now a.start.now a.goal.now a.max_moves a.max_cost a.step_limit in
+    let query = query_of a.query in
     let found = c.search-answer.ensures in (
       both a.set query _ _ _ _ found.0 c.update.ensures.0,
       found.1,
