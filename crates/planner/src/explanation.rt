@@ -3,6 +3,7 @@ ghost use Rattle.std.specs.Prelude.{◌≡◌, length};
 ghost use Rattle.search_spec.specs.Query.{asked};
 ghost use Rattle.planner_spec.specs.TextExplain.{text_explained, explanation_buffer, TextExplainMeaning};
 
+use search_spec::Query;
 use text_explain::explain_text;
 
 // The outcome, and in the buffer the nineteen bytes of the explanation and zeros after them; zeros alone where the
@@ -28,7 +29,14 @@ pub extern "C" fn planner_explain(
         × (out.new ≡ explanation_buffer room answer)
         × TextExplainMeaning rules.now query moves.now room result out.new }
 {
-    explain_text(
-        rules, table, start, goal, moves, out, reach, max_moves, max_cost, step_limit,
-    )
+    let query = Query {
+        reach,
+        table,
+        start,
+        goal,
+        max_moves,
+        max_cost,
+        step_limit,
+    };
+    explain_text(rules, query, moves, out)
 }

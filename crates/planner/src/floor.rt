@@ -4,6 +4,7 @@ ghost use Rattle.search_spec.specs.Query.{asked};
 ghost use Rattle.planner_spec.specs.Packed.{searched_text};
 ghost use Rattle.planner_spec.specs.TextSearch.{TextSearchMeaning};
 
+use search_spec::Query;
 use text_search::search_text;
 
 // The search of `planner_search`, with the same effect on the plan buffer: gives the floor, 0 for every outcome but 18.
@@ -27,8 +28,15 @@ pub extern "C" fn planner_search_floor(
         × (plan.new ≡ found.plan)
         × TextSearchMeaning rules.now query room found }
 {
-    let answer = search_text(
-        rules, reach, table, start, goal, max_moves, max_cost, step_limit, plan,
-    );
+    let query = Query {
+        reach,
+        table,
+        start,
+        goal,
+        max_moves,
+        max_cost,
+        step_limit,
+    };
+    let answer = search_text(rules, query, plan);
     answer.floor
 }

@@ -21,6 +21,7 @@ ghost use Rattle.planner_spec.specs.TextMacro.{text_macro, macro_buffer, TextMac
 ghost use Rattle.planner_spec.specs.TextSearch.{TextSearchMeaning};
 
 use packing::{pack, pack_length, pack_table};
+use search_spec::Query;
 use text_search::search_text;
 
 // Judges a rule file for C: 1 to 4, or 0.
@@ -115,8 +116,15 @@ pub extern "C" fn planner_search(
         × (plan.new ≡ (searched_text rules.now query room).plan)
         × TextSearchMeaning rules.now query room found) }
 {
-    let answer = search_text(
-        rules, reach, table, start, goal, max_moves, max_cost, step_limit, plan,
-    );
+    let query = Query {
+        reach,
+        table,
+        start,
+        goal,
+        max_moves,
+        max_cost,
+        step_limit,
+    };
+    let answer = search_text(rules, query, plan);
     pack(answer)
 }

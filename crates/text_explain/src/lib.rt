@@ -2,7 +2,7 @@
 #![tactic(auto)]
 
 ghost use Rattle.std.specs.Prelude.{◌≡◌, length, replicate};
-ghost use Rattle.search_spec.specs.Query.{asked};
+ghost use Rattle.search_spec.specs.Query.{query_of};
 ghost use Rattle.planner_spec.specs.TextExplain.{text_explained, explanation_buffer, TextExplainMeaning};
 
 use buffers::fill_from;
@@ -10,6 +10,7 @@ use explain::explain;
 use explain_spec::Explanation;
 use explanation_bytes::explanation_bytes;
 use reader::read;
+use search_spec::Query;
 
 // How many bytes an explanation has.
 const EXPLANATION_SIZE: usize = 19;
@@ -26,34 +27,20 @@ fn put_explanation(answer: Explanation, out: &mut [u8])
 
 // Explains why the search does not show a proposed sequence, with the set of a rule text; the outcome. The bytes of the
 // explanation stand in the buffer, and zeros after them; zeros alone where the buffer is too short for them.
-pub fn explain_text(
-    text: &[u8],
-    table: &[u8],
-    start: &[u8],
-    goal: &[u8],
-    moves: &[u8],
-    out: &mut [u8],
-    reach: usize,
-    max_moves: usize,
-    max_cost: u16,
-    step_limit: u32,
-) -> u8
-    ensures { let query = asked reach table.now start.now goal.now
-        max_moves max_cost step_limit in
+pub fn explain_text(text: &[u8], query: Query<'_>, moves: &[u8], out: &mut [u8]) -> u8
+    ensures { let asked = query_of query.entry in
         let room = length out.old in
-        let answer = text_explained text.now query moves.now in
+        let answer = text_explained text.now asked moves.now in
         (result ≡ answer.outcome)
         × (out.new ≡ explanation_buffer room answer)
-        × TextExplainMeaning text.now query moves.now room result out.new }
+        × TextExplainMeaning text.now asked moves.now room result out.new }
 {
     fill_from(out, 0, 0);
     let file = read(text);
     if file.outcome != 0 {
         return file.outcome;
     }
-    let answer = explain(
-        file.set, reach, table, start, goal, max_moves, max_cost, step_limit, moves,
-    );
+    let answer = explain(file.set, query, moves);
     put_explanation(answer, out);
     answer.outcome
 }

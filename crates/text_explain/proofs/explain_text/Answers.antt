@@ -7,7 +7,7 @@ use lib.ListN.{length, replicate, length-replicate}
 use Rattle.theory_spec.specs.Sequences.{Sequence}
 use Rattle.model_spec.proofs.BufferLaws.{filled-whole}
 use Rattle.files_spec.specs.declared.Reading.{Reading}
-use Rattle.search_spec.specs.Query.{Query, asked}
+use Rattle.search_spec.specs.Query.{Query, query_of}
 use Rattle.explain_spec.specs.Explained.{bare, explained}
 use Rattle.explain_spec.specs.declared.Explanation.{Explanation}
 use Rattle.planner_spec.specs.TextExplain.{text_explained, explanation_buffer, TextExplainMeaning}
@@ -29,7 +29,7 @@ told text query q room given left answer is e f =
 pub returns-then-file-ne0 : goal.returns-then-file-ne0
 returns-then-file-ne0 c =
     let a = c.args in
-    let query = asked a.reach a.table.now a.start.now a.goal.now a.max_moves a.max_cost a.step_limit in
+    let query = query_of a.query in
     let text = a.text.now in
     let q = a.moves.now in
     let room = length a.out.now in
@@ -48,7 +48,7 @@ put_explanation-requires c =
 pub returns : goal.returns
 returns c =
     let a = c.args in
-    let query = asked a.reach a.table.now a.start.now a.goal.now a.max_moves a.max_cost a.step_limit in
+    let query = query_of a.query in
     let text = a.text.now in
     let q = a.moves.now in
     let room = length a.out.now in

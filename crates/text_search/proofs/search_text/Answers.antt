@@ -8,7 +8,7 @@ use lib.ListN.{length, replicate}
 use Rattle.model_spec.proofs.BufferLaws.{filled-whole}
 use Rattle.files_spec.specs.Reading.{reading}
 use Rattle.files_spec.specs.declared.Reading.{Reading}
-use Rattle.search_spec.specs.Query.{Query, asked}
+use Rattle.search_spec.specs.Query.{Query, query_of}
 use Rattle.search_spec.specs.Searched.{Searched, searched, no_move}
 use Rattle.planner_spec.specs.Packed.{text_refused, searched_text}
 use Rattle.planner_spec.proofs.TextSearchLaws.{refused-text, read-text, text-found}
@@ -38,7 +38,7 @@ module _ (text : List ℕ) (query : Query) (room : ℕ) (file : Reading) (e : fi
 pub returns-then-refusal-ne0 : goal.returns-then-refusal-ne0
 returns-then-refusal-ne0 c =
     let a = c.args in
-    let query = asked a.reach a.table.now a.start.now a.goal.now a.max_moves a.max_cost a.step_limit in
+    let query = query_of a.query in
     let room = length a.plan.now in
     let text = a.text.now in
     let blank = c.fill_from.ensures ∙ filled-whole no_move a.plan.now in
@@ -48,7 +48,7 @@ returns-then-refusal-ne0 c =
 pub returns : goal.returns
 returns c =
     let a = c.args in
-    let query = asked a.reach a.table.now a.start.now a.goal.now a.max_moves a.max_cost a.step_limit in
+    let query = query_of a.query in
     let room = length a.plan.now in
     let text = a.text.now in
     text-found text query room _
