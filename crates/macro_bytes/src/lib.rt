@@ -1,43 +1,35 @@
 // The bytes of a macro and of the positions that it reads and writes.
 #![tactic(auto)]
 
-ghost use Rattle.std.specs.Prelude.{◌≡◌, get_or};
+ghost use Rattle.std.specs.Prelude.{◌≡◌, ◌++◌};
 ghost use Rattle.tables_spec.specs.Table.{entry_bytes};
 ghost use Rattle.planner_spec.specs.TextMacro.{macro_bytes};
 
 use macros_spec::{Macro, Touched};
 use model_spec::PLACE_COUNT;
 
-// Behind the two vectors stand the cost, the positions read and the positions written, two bytes each.
-const COST: usize = 2 * PLACE_COUNT;
+// How many bytes a macro has: the entries of two vectors, and three numbers.
+const MACRO_SIZE: usize = 2 * PLACE_COUNT + 6;
 
-const READS: usize = COST + 2;
-
-const WRITES: usize = READS + 2;
-
-// Byte k of a number of two bytes, low byte first; 0 beyond them.
-fn number_byte(number: u16, k: usize) -> u8
-    ensures { result ≡ get_or (entry_bytes number) k 0 }
+// The cost, the positions read and the positions written in two bytes each, low byte first.
+fn number_bytes(cost: u16, touched: Touched) -> [u8; 6]
+    ensures { result ≡ entry_bytes cost ++ (entry_bytes touched.reads ++ entry_bytes touched.writes) }
 {
-    let bytes = number.to_le_bytes();
-    if k < 2 { bytes[k] } else { 0 }
+    let cost = cost.to_le_bytes();
+    let reads = touched.reads.to_le_bytes();
+    let writes = touched.writes.to_le_bytes();
+    [cost[0], cost[1], reads[0], reads[1], writes[0], writes[1]]
 }
 
-// Byte i of a macro: condition, effect, cost and both sets; 0 beyond them.
-pub fn macro_byte(m: Macro, touched: Touched, i: usize) -> u8
-    ensures { result ≡ get_or (macro_bytes m touched) i 0 }
+// The bytes of a macro: condition, effect, cost and both sets.
+pub fn macro_bytes(m: Macro, touched: Touched) -> [u8; MACRO_SIZE]
+    ensures { result ≡ macro_bytes m touched }
 {
-    if i < PLACE_COUNT {
-        return m.condition[i];
-    }
-    if i < COST {
-        return m.effect[i - PLACE_COUNT];
-    }
-    if i < READS {
-        return number_byte(m.cost, i - COST);
-    }
-    if i < WRITES {
-        return number_byte(touched.reads, i - READS);
-    }
-    number_byte(touched.writes, i - WRITES)
+    let mut bytes = [0u8; MACRO_SIZE];
+    let (condition, rest) = bytes.split_at_mut(PLACE_COUNT);
+    let (effect, numbers) = rest.split_at_mut(PLACE_COUNT);
+    condition.copy_from_slice(&m.condition);
+    effect.copy_from_slice(&m.effect);
+    numbers.copy_from_slice(&number_bytes(m.cost, touched));
+    bytes
 }

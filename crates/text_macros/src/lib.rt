@@ -8,7 +8,7 @@ ghost use Rattle.model_spec.specs.Refusals.{first_refusal};
 ghost use Rattle.planner_spec.specs.TextMacro.{macro_bytes, macro_size, text_macro, macro_buffer, TextMacroMeaning};
 
 use buffers::fill_from;
-use macro_bytes::macro_byte;
+use macro_bytes::macro_bytes;
 use macros_spec::{Macro, Touched};
 use reader::read;
 
@@ -20,9 +20,9 @@ fn put_macro(m: Macro, touched: Touched, out: &mut [u8])
     requires { macro_size ≤ length out.old }
     ensures { out.new ≡ padded (length out.old) 0 (macro_bytes m touched) }
 {
-    for i in 0..out.len() {
-        out[i] = macro_byte(m, touched, i);
-    }
+    let (front, rest) = out.split_at_mut(MACRO_SIZE);
+    front.copy_from_slice(&macro_bytes(m, touched));
+    rest.fill(0);
 }
 
 // The outcome of a call whose macro is to stand in a buffer of so many bytes: last of all, 8 where they are too few.
