@@ -5,7 +5,7 @@ ghost use Rattle.std.specs.Prelude.{◌≡◌, cond, ◌*◌, ◌≤◌, length}
 ghost use Rattle.model_spec.specs.Validity.{WellFormed};
 ghost use Rattle.tables_spec.specs.Table.{table_entries, accepted};
 ghost use Rattle.tables_spec.specs.Answers.{check_outcome, CheckMeaning};
-ghost use Rattle.tables_laws.specs.How.Outcomes.{outcome_of};
+ghost use Rattle.refusals_spec.specs.Numbers.{outcome_number};
 
 use mark_check::mark_at;
 use model_spec::RuleSet;
@@ -20,7 +20,7 @@ fn check_marks(set: RuleSet, reach: usize, table: &[u8]) -> Result<(), Refusal>
     requires { WellFormed set
         × (reach ≤ 3)
         × (length table.now ≡ 2 * table_entries set reach) }
-    ensures { outcome_of result ≡ cond (accepted set reach table.now) 0 14 }
+    ensures { outcome_number result ≡ cond (accepted set reach table.now) 0 14 }
 {
     for i in 0..table.len() / 2 {
         mark_at(set, table, i)?;
@@ -30,7 +30,7 @@ fn check_marks(set: RuleSet, reach: usize, table: &[u8]) -> Result<(), Refusal>
 
 // Checks a table.
 fn check(set: RuleSet, reach: usize, table: &[u8]) -> Result<(), Refusal>
-    ensures { outcome_of result ≡ check_outcome set reach table.now }
+    ensures { outcome_number result ≡ check_outcome set reach table.now }
 {
     if !is_valid(set) {
         return Err(Refusal::RuleSet);

@@ -7,7 +7,7 @@ ghost use Rattle.model_spec.specs.Validity.{WellFormed};
 ghost use Rattle.macros_spec.specs.Composition.{composed, as_vectors};
 ghost use Rattle.tables_spec.specs.Table.{table_entries, built_table, built_entry};
 ghost use Rattle.tables_spec.specs.Answers.{build_outcome, built_buffer, BuildMeaning};
-ghost use Rattle.tables_laws.specs.How.Outcomes.{outcome_of};
+ghost use Rattle.refusals_spec.specs.Numbers.{outcome_number};
 ghost use Rattle.tables_laws.specs.How.ShortSequences.{short_sequence};
 ghost use Rattle.unions_spec.specs.Unions.{table_touched, build_answer, UnionMeaning};
 
@@ -70,7 +70,7 @@ fn write_entries(set: RuleSet, reach: usize, table: &mut [u8]) -> Touched
 
 // Builds a table; a refused one is left as it is.
 fn build(set: RuleSet, reach: usize, table: &mut [u8]) -> Result<Touched, Refusal>
-    ensures outcome { outcome_of result ≡ build_outcome set reach (length table.old) }
+    ensures outcome { outcome_number result ≡ build_outcome set reach (length table.old) }
     ensures built { IfOk result (λ touched. (table.new ≡ built_table set reach)
         × (touched ≡ table_touched set reach (built_table set reach))) }
 {

@@ -5,7 +5,7 @@ ghost use Rattle.std.specs.Prelude.{◌≡◌, cond, ◌*◌, ◌≤◌, length,
 ghost use Rattle.model_spec.specs.Validity.{WellFormed};
 ghost use Rattle.tables_spec.specs.Table.{table_entries, accepted};
 ghost use Rattle.tables_spec.specs.Answers.{check_outcome, CheckMeaning};
-ghost use Rattle.tables_laws.specs.How.Outcomes.{outcome_of};
+ghost use Rattle.refusals_spec.specs.Numbers.{outcome_number};
 ghost use Rattle.unions_spec.specs.Unions.{table_touched, check_answer, UnionMeaning};
 
 use macros_spec::Touched;
@@ -25,7 +25,7 @@ fn check_marks(set: RuleSet, reach: usize, table: &[u8]) -> Result<Touched, Refu
     requires { WellFormed set
         × (reach ≤ 3)
         × (length table.now ≡ 2 * table_entries set reach) }
-    ensures outcome { outcome_of result ≡ cond (accepted set reach table.now) 0 14 }
+    ensures outcome { outcome_number result ≡ cond (accepted set reach table.now) 0 14 }
     ensures touched { IfOk result (λ touched. touched ≡ table_touched set reach table.now) }
 {
     let wide = wide_positions(set);
@@ -43,7 +43,7 @@ fn check_marks(set: RuleSet, reach: usize, table: &[u8]) -> Result<Touched, Refu
 
 // Checks a table.
 fn check(set: RuleSet, reach: usize, table: &[u8]) -> Result<Touched, Refusal>
-    ensures outcome { outcome_of result ≡ check_outcome set reach table.now }
+    ensures outcome { outcome_number result ≡ check_outcome set reach table.now }
     ensures touched { IfOk result (λ touched. touched ≡ table_touched set reach table.now) }
 {
     if !is_valid(set) {

@@ -6,7 +6,7 @@ ghost use Rattle.model_spec.specs.Validity.{WellFormed};
 ghost use Rattle.macros_spec.specs.Composition.{composed, as_vectors, lines_of};
 ghost use Rattle.macros_spec.specs.Redundancy.{redundant_by_lines};
 ghost use Rattle.tables_spec.specs.Table.{table_entries, kept, entry_at, entry_justified};
-ghost use Rattle.tables_laws.specs.How.Outcomes.{outcome_of};
+ghost use Rattle.refusals_spec.specs.Numbers.{outcome_number};
 ghost use Rattle.tables_laws.specs.How.ShortSequences.{short_sequence};
 
 use macros_spec::Vectors;
@@ -34,7 +34,7 @@ pub fn witness_serves(set: RuleSet, own: Profile, index: usize, entry: usize) ->
 // where it neither keeps its sequence nor names a smaller index with whose sequence it is redundant.
 pub fn mark_at(set: RuleSet, table: &[u8], index: usize) -> Result<Option<Vectors>, Refusal>
     ensures outcome { WellFormed set → index < table_entries set 3
-        → outcome_of result ≡ cond (entry_justified set 3 table.now index) 0 14 }
+        → outcome_number result ≡ cond (entry_justified set 3 table.now index) 0 14 }
     ensures mark { let entry = entry_at table.now index in
         let own = as_vectors (composed set (short_sequence set.count index)) in
         IfOk result (λ mark. MatchOption mark (entry ≡ kept) (λ vectors. (entry ≢ kept) × (vectors ≡ own))) }

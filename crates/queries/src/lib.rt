@@ -6,7 +6,7 @@ ghost use Rattle.model_spec.specs.Limits.{max_positions};
 ghost use Rattle.model_spec.specs.Refusals.{first_refusal};
 ghost use Rattle.search_spec.specs.Query.{query_of, start_fits, goal_fits};
 ghost use Rattle.search_spec.specs.Searched.{query_causes};
-ghost use Rattle.search_laws.specs.How.Refusals.{refusal_number};
+ghost use Rattle.refusals_spec.specs.Numbers.{outcome_number};
 
 use acceptance::check_outcome;
 use model_spec::{MOVE_LIMIT, RuleSet};
@@ -41,7 +41,7 @@ fn goal_fits(set: RuleSet, goal: &[u8]) -> bool
 // query's own causes.
 pub fn query_refusal(set: RuleSet, query: Query<'_>, plan_size: usize) -> Result<(), Refusal>
     ensures { let asked = query_of query.entry in
-        refusal_number result ≡ first_refusal (query_causes set asked plan_size) }
+        outcome_number result ≡ first_refusal (query_causes set asked plan_size) }
 {
     let checked = check_outcome(set, query.reach, query.table);
     match checked {

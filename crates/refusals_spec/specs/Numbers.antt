@@ -1,5 +1,6 @@
--- The number of each refusal, as C and the definitions have it.
-use Rattle.std.specs.Prelude.{ℕ}
+-- The number of each refusal, as C and the definitions have it, and the outcome of a call that gives a value or a
+-- refusal.
+use Rattle.std.specs.Prelude.{ℕ, Result, Ok, Err}
 use Rattle.refusals_spec.specs.declared.Refusal.{Refusal}
 use Rattle.refusals_spec.specs.declared.Refusal.TheVariants.{Form, Limit, Place, Duplicates, Reach, TableLength}
 use Rattle.refusals_spec.specs.declared.Refusal.TheVariants.{RuleSet, TextRoom, Start, Goal, Moves, PlanRoom}
@@ -23,3 +24,8 @@ number_of UnknownMove = 13
 number_of Table = 14
 number_of NotAdmitted = 17
 number_of Client = 19
+
+-- 0 with a value, else the refusal's number
+abbrev pub outcome_number : {A : Type 0} → Result A Refusal → ℕ
+outcome_number (Ok value) = 0
+outcome_number (Err refusal) = number_of refusal

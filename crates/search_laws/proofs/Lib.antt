@@ -6,5 +6,4 @@ pub mod ProgressLaws
 pub mod LentLaws
 pub mod ExploredLaws
 pub mod AnswerLaws
-pub mod RefusalLaws
 pub mod ByteLaws

@@ -1,3 +1,2 @@
 pub mod Visits
 pub mod Lookup
-pub mod Refusals

@@ -5,7 +5,7 @@ ghost use Rattle.std.specs.Prelude.{◌≡◌, ◌*◌, IfOk};
 ghost use Rattle.model_spec.specs.Refusals.{first_refusal};
 ghost use Rattle.tables_spec.specs.Table.{table_entries};
 ghost use Rattle.tables_spec.specs.Answers.{reach_causes, size_causes, shape_causes, table_size, SizeMeaning};
-ghost use Rattle.tables_laws.specs.How.Outcomes.{outcome_of};
+ghost use Rattle.refusals_spec.specs.Numbers.{outcome_number};
 
 use model_spec::RuleSet;
 use refusals::number_of;
@@ -16,7 +16,7 @@ use validity::is_valid;
 
 // How long a table is for a reach, in bytes, once the set is judged.
 fn size_for(set: RuleSet, reach: usize) -> Result<usize, Refusal>
-    ensures outcome { outcome_of result ≡ first_refusal (reach_causes reach) }
+    ensures outcome { outcome_number result ≡ first_refusal (reach_causes reach) }
     ensures length { IfOk result (λ length. length ≡ 2 * table_entries set reach) }
 {
     if !(1..=3).contains(&reach) {
@@ -27,7 +27,7 @@ fn size_for(set: RuleSet, reach: usize) -> Result<usize, Refusal>
 
 // How long the table of a rule set is for a reach, in bytes.
 fn judged_size(set: RuleSet, reach: usize) -> Result<usize, Refusal>
-    ensures outcome { outcome_of result ≡ first_refusal (size_causes set reach) }
+    ensures outcome { outcome_number result ≡ first_refusal (size_causes set reach) }
     ensures length { IfOk result (λ length. length ≡ 2 * table_entries set reach) }
 {
     if !is_valid(set) {
@@ -52,7 +52,7 @@ pub fn table_size(set: RuleSet, reach: usize) -> TableSize
 
 // Once the set is judged: whether a table has the length of its reach.
 pub fn shape_refusal(set: RuleSet, reach: usize, size: usize) -> Result<(), Refusal>
-    ensures { outcome_of result ≡ first_refusal (shape_causes set reach size) }
+    ensures { outcome_number result ≡ first_refusal (shape_causes set reach size) }
 {
     if size_for(set, reach)? != size {
         return Err(Refusal::TableLength);

@@ -13,13 +13,13 @@ use Rattle.macros_spec.specs.Touched.{untouched}
 use Rattle.macros_spec.specs.declared.Touched.{Touched}
 use Rattle.unions_spec.specs.Unions.{table_touched, answer_with}
 use Rattle.unions_spec.specs.declared.TableAnswer.{TableAnswer}
-use Rattle.tables_laws.specs.How.Outcomes.{outcome_of}
-use Rattle.tables_laws.proofs.OutcomeLaws.{number_positive}
+use Rattle.refusals_spec.specs.Numbers.{outcome_number}
+use Rattle.refusals_spec.proofs.NumberLaws.{number_positive}
 
 -- the answer has the outcome and, where that is 0, the unions
 pub answered : (set : RuleSet) (reach : ℕ) (table : List ℕ) (outcome : ℕ) (found : Result Touched Refusal)
-    → outcome_of found ≡ outcome → IfOk found (λ touched. touched ≡ table_touched set reach table)
-    → (r : TableAnswer) → r.outcome ≡ outcome_of found
+    → outcome_number found ≡ outcome → IfOk found (λ touched. touched ≡ table_touched set reach table)
+    → (r : TableAnswer) → r.outcome ≡ outcome_number found
     → MatchResult found (λ sets. r.touched ≡ sets) (λ _. r.touched ≡ untouched)
     → r ≡ answer_with set reach table outcome
 answered set reach table outcome (Ok sets) e u r o t =

@@ -1,18 +1,15 @@
--- The outcomes of refusals, and those of the check of a table as its functions come to them.
+-- The outcomes of the check of a table as its functions come to them.
 -- Assumes nothing.
-use mathlib.Core.Path.{◌≡◌, refl, sym, ap, ◌∙◌}
+use mathlib.Core.Path.{◌≡◌, refl, sym, ◌∙◌}
 use mathlib.Core.Logic.{◌≢◌}
 use mathlib.Core.Bool.{Bool, true, false, cond}
 use mathlib.Core.List.{List}
 use Prim.Native.Nat.{ℕ}
 use native.Mathlib.Omega.{arith}
 use lib.ListN.{length}
-use Rattle.std.specs.Prelude.{Result, Ok, Err, IsErrAnd}
 use Rattle.refusals_spec.specs.Numbers.{number_of}
 use Rattle.refusals_spec.specs.declared.Refusal.{Refusal}
-use Rattle.refusals_spec.specs.declared.Refusal.TheVariants.{Form, Limit, Place, Duplicates, Reach, TableLength}
-use Rattle.refusals_spec.specs.declared.Refusal.TheVariants.{RuleSet, TextRoom, Start, Goal, Moves, PlanRoom}
-use Rattle.refusals_spec.specs.declared.Refusal.TheVariants.{UnknownMove, Table, NotAdmitted, Client}
+use Rattle.refusals_spec.proofs.NumberLaws.{number_positive}
 use Rattle.theory_spec.proofs.ListLaws.{not-both}
 use Rattle.model_spec.specs.Refusals.{first_refusal}
 use Rattle.model_spec.specs.Validity.{valid}
@@ -21,32 +18,6 @@ use Rattle.model_spec.proofs.ValidityLaws.{valid_iff}
 use Rattle.tables_spec.specs.Table.{accepted}
 use Rattle.tables_spec.specs.Answers.{shape_causes, check_outcome}
 use Rattle.tables_spec.proofs.AnswerLaws.{check-judged, check_meaning, marks-refused, marks_decide}
-use Rattle.tables_laws.specs.How.Outcomes.{outcome_of}
-
--- no refusal has the number 0
-pub number_positive : (refusal : Refusal) → number_of refusal ≢ 0
-number_positive Form e = absurd (omega (arith, e))
-number_positive Limit e = absurd (omega (arith, e))
-number_positive Place e = absurd (omega (arith, e))
-number_positive Duplicates e = absurd (omega (arith, e))
-number_positive Reach e = absurd (omega (arith, e))
-number_positive TableLength e = absurd (omega (arith, e))
-number_positive RuleSet e = absurd (omega (arith, e))
-number_positive TextRoom e = absurd (omega (arith, e))
-number_positive Start e = absurd (omega (arith, e))
-number_positive Goal e = absurd (omega (arith, e))
-number_positive Moves e = absurd (omega (arith, e))
-number_positive PlanRoom e = absurd (omega (arith, e))
-number_positive UnknownMove e = absurd (omega (arith, e))
-number_positive Table e = absurd (omega (arith, e))
-number_positive NotAdmitted e = absurd (omega (arith, e))
-number_positive Client e = absurd (omega (arith, e))
-
--- a refusal that is passed on
-pub passed-on : {A : Type 0} (r : Result A Refusal) (refusal : Refusal) → IsErrAnd r (λ e. e ≡ refusal)
-    → outcome_of r ≡ number_of refusal
-passed-on (Ok value) refusal h = absurd h
-passed-on (Err e) refusal h = ap number_of h
 
 -- what the outcome of one entry tells of it
 pub mark-refused : (refusal : Refusal) (b : Bool) → number_of refusal ≡ cond b 0 14 → b ≡ false

@@ -1,4 +1,3 @@
 pub mod Witnesses
 pub mod ShortSequences
-pub mod Outcomes
 pub mod Searches

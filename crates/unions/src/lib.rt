@@ -5,7 +5,7 @@ ghost use Rattle.std.specs.Prelude.{◌≡◌, ◌&&◌, eqb, MatchResult};
 ghost use Rattle.macros_spec.specs.Composition.{lines_of};
 ghost use Rattle.macros_spec.specs.Touched.{untouched};
 ghost use Rattle.macros_spec.specs.How.Touching.{touched_within};
-ghost use Rattle.tables_laws.specs.How.Outcomes.{outcome_of};
+ghost use Rattle.refusals_spec.specs.Numbers.{outcome_number};
 ghost use Rattle.unions_spec.specs.Unions.{refused_table};
 ghost use Rattle.unions_spec.specs.How.United.{united};
 
@@ -28,7 +28,7 @@ pub fn refused(outcome: u8) -> TableAnswer
 
 // What a build or a check gives: the unions that it found, or its refusal.
 pub fn answer(found: Result<Touched, Refusal>) -> TableAnswer
-    ensures outcome { result.outcome ≡ outcome_of found }
+    ensures outcome { result.outcome ≡ outcome_number found }
     ensures touched { MatchResult found (λ sets. result.touched ≡ sets) (λ _. result.touched ≡ untouched) }
 {
     match found {

@@ -7,7 +7,7 @@ ghost use Rattle.std.specs.Prelude.{◌≡◌, IfOk, take};
 ghost use Rattle.model_spec.specs.Refusals.{first_refusal};
 ghost use Rattle.search_spec.specs.Query.{query_of};
 ghost use Rattle.search_spec.specs.Searched.{query_causes};
-ghost use Rattle.search_laws.specs.How.Refusals.{refusal_number};
+ghost use Rattle.refusals_spec.specs.Numbers.{outcome_number};
 ghost use Rattle.search_laws.specs.How.Visits.{Lent, Reached, visits_from, whole_progress};
 
 use lookup::{first_place, lookup_of};
@@ -110,7 +110,7 @@ fn visit_from(
 // Judges a query, and if it is not refused, visits its sequences from the empty one on, up to the step limit.
 pub fn explored(set: RuleSet, query: Query<'_>, plan_size: usize) -> Result<Progress, Refusal>
     ensures refusal { let asked = query_of query.entry in
-        refusal_number result ≡ first_refusal (query_causes set asked plan_size) }
+        outcome_number result ≡ first_refusal (query_causes set asked plan_size) }
     ensures progress { let asked = query_of query.entry in
         IfOk result (λ progress. progress ≡ whole_progress set asked) }
 {

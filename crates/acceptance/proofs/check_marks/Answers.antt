@@ -10,7 +10,8 @@ use Rattle.model_spec.proofs.LoopLaws.{every_go, every_stop, every-end}
 use Rattle.tables_spec.specs.Table.{table_entries, entry_justified, accepted}
 use Rattle.tables_spec.proofs.ReachLaws.{near_entries, near-justified}
 use Rattle.tables_spec.proofs.TableLaws.{accepted_entries}
-use Rattle.tables_laws.proofs.OutcomeLaws.{passed-on, mark-refused, mark-passed}
+use Rattle.refusals_spec.proofs.NumberLaws.{passed-on}
+use Rattle.tables_laws.proofs.OutcomeLaws.{mark-refused, mark-passed}
 use Rattle.acceptance.proofs.check_marks.Goals as goal
 
 -- all entries are left at first

@@ -4,7 +4,7 @@ use lib.ListN.{length}
 use Rattle.theory_spec.proofs.ListLaws.{not-both}
 use Rattle.model_spec.proofs.ValidityLaws.{valid_iff}
 use Rattle.tables_spec.proofs.AnswerLaws.{build-judged, build_meaning}
-use Rattle.tables_laws.proofs.OutcomeLaws.{passed-on}
+use Rattle.refusals_spec.proofs.NumberLaws.{passed-on}
 use Rattle.builder.proofs.build.Goals as goal
 
 pub returns-then-not-is_valid-clause-outcome : goal.returns-then-not-is_valid-clause-outcome

@@ -12,9 +12,9 @@ use Rattle.macros_spec.specs.declared.Touched.{Touched}
 use Rattle.tables_spec.specs.Table.{built_table}
 use Rattle.tables_spec.specs.Answers.{build_outcome, built_buffer, BuildMeaning}
 use Rattle.tables_spec.proofs.AnswerLaws.{built-whole, built-refused, build_meaning}
-use Rattle.tables_laws.specs.How.Outcomes.{outcome_of}
+use Rattle.refusals_spec.specs.Numbers.{outcome_number}
 use Rattle.tables_laws.proofs.AnswerLaws.{answered}
-use Rattle.tables_laws.proofs.OutcomeLaws.{number_positive}
+use Rattle.refusals_spec.proofs.NumberLaws.{number_positive}
 use Rattle.unions_spec.specs.Unions.{table_touched, answer_with, build_answer, UnionMeaning}
 use Rattle.unions_spec.specs.declared.TableAnswer.{TableAnswer}
 use Rattle.unions_spec.proofs.UnionLaws.{build_unions}
@@ -45,12 +45,12 @@ module _ (set : RuleSet) (reach size : ℕ) where
   unions (Err refusal) table h = tt
 
   left : (found : Result Touched Refusal) (table : List ℕ) → Built found table → is_err found ≡ false
-      → outcome_of found ≡ build_outcome set reach size → table ≡ built_buffer set reach size
+      → outcome_number found ≡ build_outcome set reach size → table ≡ built_buffer set reach size
   left (Ok touched) table h t e = h.0 ∙ sym (built-whole set reach size (sym e))
   left (Err refusal) table h t e = absurd (true≢false t)
 
   cleared : (found : Result Touched Refusal) (table : List ℕ) → is_err found ≡ true
-      → outcome_of found ≡ build_outcome set reach size → table ≡ replicate size 0 → table ≡ built_buffer set reach size
+      → outcome_number found ≡ build_outcome set reach size → table ≡ replicate size 0 → table ≡ built_buffer set reach size
   cleared (Ok touched) table t e z = absurd (true≢false (sym t))
   cleared (Err refusal) table t e z =
       z ∙ sym (built-refused set reach size (λ none. number_positive refusal (e ∙ none)))

@@ -1,6 +1,7 @@
 -- `checker::check` meets its contract: each way out has the outcome of its cause.
 use mathlib.Core.Path.{sym, ◌∙◌}
-use Rattle.tables_laws.proofs.OutcomeLaws.{number_positive, passed-on, check-invalid, check-misfit, check-decided}
+use Rattle.refusals_spec.proofs.NumberLaws.{number_positive, passed-on}
+use Rattle.tables_laws.proofs.OutcomeLaws.{check-invalid, check-misfit, check-decided}
 use Rattle.checker.proofs.check.Goals as goal
 
 pub returns-then-not-is_valid-clause-outcome : goal.returns-then-not-is_valid-clause-outcome

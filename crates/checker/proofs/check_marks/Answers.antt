@@ -18,7 +18,8 @@ use Rattle.tables_spec.specs.Table.{table_entries, sequence_at, kept, entry_at, 
 use Rattle.tables_spec.proofs.ReachLaws.{near_entries, near-justified}
 use Rattle.tables_spec.proofs.TableLaws.{accepted_entries}
 use Rattle.tables_laws.proofs.MarkLaws.{own_touched}
-use Rattle.tables_laws.proofs.OutcomeLaws.{passed-on, mark-refused, mark-passed}
+use Rattle.refusals_spec.proofs.NumberLaws.{passed-on}
+use Rattle.tables_laws.proofs.OutcomeLaws.{mark-refused, mark-passed}
 use Rattle.unions_spec.specs.How.United.{united, united_to}
 use Rattle.unions_spec.proofs.UnionLaws.{united_next, united_all}
 use Rattle.checker.proofs.check_marks.Invariants.{marks}

@@ -12,7 +12,7 @@ use Rattle.explain_spec.specs.declared.Explanation.{Explanation}
 use Rattle.explain_spec.proofs.MeaningLaws.{explanation_meaning}
 use Rattle.explain_laws.proofs.ExplainedLaws.{alone_of, told_of, refused-first, unknown-first, searched-outcome}
 use Rattle.explain_laws.proofs.ExplainedLaws.{proposal-passed, plan-shown}
-use Rattle.search_laws.proofs.RefusalLaws.{refused}
+use Rattle.refusals_spec.proofs.NumberLaws.{number_positive}
 use Rattle.explain.proofs.explain.Goals as goal
 
 -- the definition's answer has its meaning
@@ -36,7 +36,7 @@ returns-in-Err c =
     let told = c.in-Err.ensures in
     means a.set query a.moves.now _
     (c.bare-in-Err.ensures ∙ ap bare (c.number_of-in-Err.ensures ∙ told)
-    ∙ refused-first a.set query a.moves.now (λ z. refused c.in-Err.refusal (told ∙ z)))
+    ∙ refused-first a.set query a.moves.now (λ z. number_positive c.in-Err.refusal (told ∙ z)))
 
 pub returns-then-not-has_reason : goal.returns-then-not-has_reason
 returns-then-not-has_reason c =

@@ -11,7 +11,7 @@ use Rattle.search_spec.specs.Searched.{query_causes}
 use Rattle.search_spec.proofs.Demand.{without_plan}
 use Rattle.search_spec.proofs.OutcomeLaws.{searched-refused}
 use Rattle.search_laws.proofs.AnswerLaws.{left_with, answers, explored_planless, explored-room, explored-shown}
-use Rattle.search_laws.proofs.RefusalLaws.{refused}
+use Rattle.refusals_spec.proofs.NumberLaws.{number_positive}
 use Rattle.search.proofs.search.Goals as goal
 
 pub returns-in-Err : goal.returns-in-Err
@@ -20,7 +20,7 @@ returns-in-Err c =
     let query = query_of c.args.query in
     let room = length c.args.plan.now in
     let told = c.in-Err.ensures.refusal ∙ ap (λ n. first_refusal (query_causes set query n)) c.fill.ensures.len in
-    let refused = searched-refused set query room (λ k. refused c.in-Err.refusal (told ∙ k)) in
+    let refused = searched-refused set query room (λ k. number_positive c.in-Err.refusal (told ∙ k)) in
     answers set query room _ _ (without_plan room c.number_of.result 0) c.without_plan.ensures
     (c.fill.ensures.after (λ y e. e)) (ap (λ n. without_plan room n 0) (c.number_of.ensures ∙ told) ∙ sym refused)
 

@@ -11,7 +11,7 @@ use Rattle.tables_spec.specs.Table.{table_entries}
 use Rattle.tables_spec.specs.declared.TableSize.{TableSize}
 use Rattle.tables_spec.specs.Answers.{size_with, size_causes, table_size, SizeMeaning}
 use Rattle.tables_spec.proofs.SizeLaws.{size_meaning}
-use Rattle.tables_laws.proofs.OutcomeLaws.{number_positive}
+use Rattle.refusals_spec.proofs.NumberLaws.{number_positive}
 use Rattle.table_sizes.proofs.table_size.Goals as goal
 
 -- the answer with the outcome of the causes is the definition's, which has its meaning

@@ -2,7 +2,7 @@
 -- the visits from the empty sequence on come to what the query asks for.
 use mathlib.Core.Path.{refl, sym, ◌∙◌, ap}
 use Rattle.search_spec.specs.Query.{query_of}
-use Rattle.search_laws.specs.How.Refusals.{refusal_number}
+use Rattle.refusals_spec.specs.Numbers.{outcome_number}
 use Rattle.search_laws.specs.How.Visits.{no_best, no_progress}
 use Rattle.search_laws.proofs.ExploredLaws.{explored-whole, unrefused}
 use Rattle.search_laws.proofs.LentLaws.{lent-whole, reached-first}
@@ -13,7 +13,7 @@ visit_from-requires c =
     let a = c.args in
     let query = query_of a.query in
     let none = unrefused a.set query a.plan_size
-    (sym c.query_refusal.ensures ∙ ap refusal_number c.in_ok-query_refusal.was) in (
+    (sym c.query_refusal.ensures ∙ ap outcome_number c.in_ok-query_refusal.was) in (
       lent-whole a.set query a.plan_size none _ _ c.conditions_of.ensures c.effects_of.ensures,
       reached-first a.set query a.plan_size none _ _ c.start_state-state.ensures,
     )
@@ -24,7 +24,7 @@ returns-clause-progress c =
     let a = c.args in
     let query = query_of a.query in
     let none = unrefused a.set query a.plan_size
-    (sym c.query_refusal.ensures ∙ ap refusal_number c.in_ok-query_refusal.was) in
+    (sym c.query_refusal.ensures ∙ ap outcome_number c.in_ok-query_refusal.was) in
     explored-whole a.set query a.plan_size none _ c.lookup_of.ensures _ _ _ _ _ _
     c.conditions_of.ensures c.effects_of.ensures c.costs_of.ensures c.start_state-state.ensures
     refl c.visit_from.ensures
