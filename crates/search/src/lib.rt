@@ -41,11 +41,11 @@ pub fn search(set: RuleSet, query: Query<'_>, plan: &mut [u8]) -> Answer
         Ok(progress) => progress,
         Err(refusal) => return without_plan(number_of(refusal), 0),
     };
-    let best = progress.best;
-    let outcome = outcome_of(progress.exceeded, best.found);
-    if !best.found {
-        return without_plan(outcome, progress.steps);
-    }
+    let outcome = outcome_of(progress.exceeded, progress.best.is_some());
+    let best = match progress.best {
+        Some(best) => best,
+        None => return without_plan(outcome, progress.steps),
+    };
     let floor = floor_shown(progress.exceeded, best.cost, progress.least);
     let length = best.length as usize;
     plan[..length].copy_from_slice(&best.moves[..length]);

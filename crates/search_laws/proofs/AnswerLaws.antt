@@ -30,9 +30,10 @@ use Rattle.search_spec.proofs.MeaningLaws.{search_meaning}
 use Rattle.search_spec.proofs.PlanPartLaws.{part_meaning}
 use Rattle.search_spec.proofs.Demand.{with_plan, without_plan}
 use Rattle.search_spec.proofs.OutcomeLaws.{searched-looked, searched_none-looked, searched-unsolvable, searched-solved}
-use Rattle.search_laws.specs.How.Visits.{best_of, no_best, as_best, whole_progress, outcome_of, floor_shown}
+use Rattle.std.specs.Prelude.{Some, None, is_some, unwrap_or}
+use Rattle.search_laws.specs.How.Visits.{as_plan, as_best, whole_progress, outcome_of, floor_shown}
 use Rattle.model_spec.proofs.CopyLaws.{copied-padded}
-use Rattle.search_laws.specs.declared.Best.{Best}
+use Rattle.search_laws.specs.declared.Plan.{Plan}
 use Rattle.search_laws.specs.declared.Progress.{Progress}
 use Rattle.search_laws.proofs.ExploredLaws.{whole-looked, looked-cheapest, unrefused}
 
@@ -48,7 +49,7 @@ put_front p size h =
 -- ── The answer ───────────────────────────────────────────────────────────────────────────────────
 
 -- what is left with a best plan, whose moves are put into a blank buffer
-abbrev pub left_with : ℕ → Best → ℕ → ℕ → List ℕ → Searched
+abbrev pub left_with : ℕ → Plan → ℕ → ℕ → List ℕ → Searched
 left_with outcome best steps floor blank =
     record {
       answer = record { outcome = outcome; cost = best.cost; length = best.length; steps = steps; floor = floor };
@@ -69,9 +70,6 @@ module _ (set : RuleSet) (query : Query) (room : ℕ) where
 
   module _ (h : first_refusal (query_causes set query room) ≡ 0) where
     module _ (progress : Progress) (explored : progress ≡ whole_progress set query) where
-      abbrev best : Best
-      best = progress.best
-
       -- the steps of an answer
       abbrev counted : ℕ
       counted = min (length (visited_by set query)) query.step_limit
@@ -84,7 +82,7 @@ module _ (set : RuleSet) (query : Query) (room : ℕ) where
       unfolding whole_progress
       exceeded_is = ap (λ (p : Progress). p.exceeded) explored
 
-      best_is : best ≡ as_best (sequence_cost set) (cheapest_looked set query)
+      best_is : progress.best ≡ as_best (sequence_cost set) (cheapest_looked set query)
       best_is = ap (λ (p : Progress). p.best) explored ∙ whole-looked set query
 
       -- if the limit is not exceeded, the plan that is looked at is the cheapest
@@ -94,51 +92,51 @@ module _ (set : RuleSet) (query : Query) (room : ℕ) where
           (ltb-false query.step_limit (length (visited_by set query)) (sym exceeded_is ∙ e))
 
       -- a plan is found exactly if one is looked at
-      none_found : best.found ≡ false → cheapest_looked set query ≡ none
-      unfolding as_best best_of
+      none_found : progress.best ≡ None → cheapest_looked set query ≡ none
+      unfolding as_best
       none_found n = go (cheapest_looked set query) refl
         where
           go : (o : Option Sequence) → cheapest_looked set query ≡ o → cheapest_looked set query ≡ none
           go none e = e
-          go (some p) e = not-both (ap (λ b. b.found) (best_is ∙ ap (as_best (sequence_cost set)) e)) n
+          go (some p) e = not-both (ap is_some (best_is ∙ ap (as_best (sequence_cost set)) e)) (ap is_some n)
 
-      some-found : best.found ≡ true → (p : Sequence) × (cheapest_looked set query ≡ some p)
-      unfolding as_best no_best
-      some-found y = go (cheapest_looked set query) refl
+      some-found : (plan : Plan) → progress.best ≡ Some plan → (p : Sequence) × (cheapest_looked set query ≡ some p)
+      unfolding as_best
+      some-found plan y = go (cheapest_looked set query) refl
         where
           go : (o : Option Sequence) → cheapest_looked set query ≡ o
               → (p : Sequence) × (cheapest_looked set query ≡ some p)
-          go none e = not-both y (ap (λ b. b.found) (best_is ∙ ap (as_best (sequence_cost set)) e))
+          go none e = not-both (ap is_some y) (ap is_some (best_is ∙ ap (as_best (sequence_cost set)) e))
           go (some p) e = (p, e)
 
-      pub explored_planless : (outcome : ℕ) → outcome ≡ outcome_of progress.exceeded best.found
-          → best.found ≡ false → without_plan room outcome progress.steps ≡ searched set query room
+      pub explored_planless : (outcome : ℕ) → outcome ≡ outcome_of progress.exceeded (is_some progress.best)
+          → progress.best ≡ None → without_plan room outcome progress.steps ≡ searched set query room
       unfolding outcome_of
       explored_planless outcome is n = go progress.exceeded refl
         where
-          left : (k : ℕ) → outcome_of progress.exceeded best.found ≡ k
+          left : (k : ℕ) → outcome_of progress.exceeded (is_some progress.best) ≡ k
               → without_plan room outcome progress.steps ≡ without_plan room k counted
           left k e = ap₂ (without_plan room) (is ∙ e) steps_are
 
           go : (b : Bool) → progress.exceeded ≡ b
               → without_plan room outcome progress.steps ≡ searched set query room
           go true e =
-              left 16 (ap₂ outcome_of e n)
+              left 16 (ap₂ outcome_of e (ap is_some n))
               ∙ sym (searched_none-looked set query room h (sym exceeded_is ∙ e) (none_found n))
           go false e =
-              left 15 (ap₂ outcome_of e n)
+              left 15 (ap₂ outcome_of e (ap is_some n))
               ∙ sym (searched-unsolvable set query room h (sym exceeded_is ∙ e) (sym (all-looked e) ∙ none_found n))
 
-      module _ (found : best.found ≡ true) where
+      module _ (best : Plan) (found : progress.best ≡ Some best) where
         abbrev plan : Sequence
-        plan = (some-found found).0
+        plan = (some-found best found).0
 
         looks : cheapest_looked set query ≡ some plan
-        looks = (some-found found).1
+        looks = (some-found best found).1
 
-        best-plan : best ≡ best_of (sequence_cost set plan) plan
+        best-plan : best ≡ as_plan (sequence_cost set plan) plan
         unfolding as_best
-        best-plan = best_is ∙ ap (as_best (sequence_cost set)) looks
+        best-plan = ap (λ held. unwrap_or held best) (sym found ∙ best_is ∙ ap (as_best (sequence_cost set)) looks)
 
         plan-bounded : (length plan ≤ 32) × (length plan ≤ room) × (sequence_cost set plan ≤ 8160)
         plan-bounded =
@@ -146,31 +144,31 @@ module _ (set : RuleSet) (query : Query) (room : ℕ) where
 
         -- the moves of the best plan fit the buffer
         pub explored-room : (best.length ≤ 32) × (best.length ≤ room)
-        unfolding best_of
+        unfolding as_plan
         explored-room =
             subst (λ b. (b.length ≤ 32) × (b.length ≤ room)) (sym best-plan) (plan-bounded.0, plan-bounded.1)
 
         -- the lower of the plan's cost and the least cost met beyond the limit is the floor beside the plan
         floor_met : min best.cost progress.least ≡ floor_beside set query plan
-        unfolding whole_progress best_of
+        unfolding whole_progress as_plan
         floor_met =
             let rest = drop query.step_limit (visited_by set query) in
             let cost = sequence_cost set plan in
             let small : min 65535 cost ≡ cost = omega (arith, plan-bounded.2) in
-            ap₂ min (ap (λ (b : Best). b.cost) best-plan) (ap (λ (p : Progress). p.least) explored)
+            ap₂ min (ap (λ (b : Plan). b.cost) best-plan) (ap (λ (p : Progress). p.least) explored)
             ∙ sym (least-min (rule_cost set) 65535 cost rest)
             ∙ ap (λ c. least_cost (rule_cost set) c rest) small
             ∙ sym (floor-rest set query plan (looked-leads set query plan looks).0.1)
 
         -- with the moves at the front of a blank buffer, that is what a search leaves
-        pub explored-shown : (outcome floor : ℕ) → outcome ≡ outcome_of progress.exceeded best.found
+        pub explored-shown : (outcome floor : ℕ) → outcome ≡ outcome_of progress.exceeded (is_some progress.best)
             → floor ≡ floor_shown progress.exceeded best.cost progress.least
             → (blank : List ℕ) → blank ≡ replicate room no_move
             → left_with outcome best progress.steps floor blank ≡ searched set query room
-        unfolding best_of outcome_of floor_shown
+        unfolding as_plan outcome_of floor_shown
         explored-shown outcome floor is floor-is blank empty = go progress.exceeded refl
           where
-            left : (k f : ℕ) → outcome_of progress.exceeded best.found ≡ k
+            left : (k f : ℕ) → outcome_of progress.exceeded (is_some progress.best) ≡ k
                 → floor_shown progress.exceeded best.cost progress.least ≡ f
                 → left_with outcome best progress.steps floor blank ≡ with_plan set room k plan counted f
             left k f e g =
@@ -189,9 +187,9 @@ module _ (set : RuleSet) (query : Query) (room : ℕ) where
             go : (b : Bool) → progress.exceeded ≡ b
                 → left_with outcome best progress.steps floor blank ≡ searched set query room
             go true e =
-                left 18 (floor_beside set query plan) (ap₂ outcome_of e found)
+                left 18 (floor_beside set query plan) (ap₂ outcome_of e (ap is_some found))
                 (ap (λ b. floor_shown b best.cost progress.least) e ∙ floor_met)
                 ∙ sym (searched-looked set query room h (sym exceeded_is ∙ e) plan looks)
             go false e =
-                left 0 0 (ap₂ outcome_of e found) (ap (λ b. floor_shown b best.cost progress.least) e)
+                left 0 0 (ap₂ outcome_of e (ap is_some found)) (ap (λ b. floor_shown b best.cost progress.least) e)
                 ∙ sym (searched-solved set query room h (sym exceeded_is ∙ e) plan (sym (all-looked e) ∙ looks))

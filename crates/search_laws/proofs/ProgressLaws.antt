@@ -19,14 +19,15 @@ use Rattle.theory_spec.specs.How.Recursion.{better, improved, best_after, best}
 use Rattle.theory_spec.proofs.FloorLaws.{least-min}
 use Rattle.model_spec.specs.States.{State}
 use Rattle.search_spec.specs.Query.{meets_goal}
-use Rattle.search_laws.specs.How.Visits.{replaces, best_of, no_best, best_at, noted_moves, noted, no_progress, as_best}
-use Rattle.search_laws.specs.declared.Best.{Best}
+use Rattle.std.specs.Prelude.{Option as Held, Some}
+use Rattle.search_laws.specs.How.Visits.{replaces, as_plan, best_at, noted_moves, noted, no_progress, as_best}
+use Rattle.search_laws.specs.declared.Plan.{Plan}
 use Rattle.search_laws.specs.declared.Progress.{Progress}
 
 module _ (cost : ℕ → ℕ) (limit : ℕ) where
   -- the best plan after q, and what visiting q makes of the progress, where `good` says whether q leads to the goal
-  abbrev pub best_as : Bool → Sequence → Best → Best
-  best_as good q b = cond (good && replaces b (cost_of cost q) (length q)) (best_of (cost_of cost q) q) b
+  abbrev pub best_as : Bool → Sequence → Held Plan → Held Plan
+  best_as good q b = cond (good && replaces b (cost_of cost q) (length q)) (Some (as_plan (cost_of cost q) q)) b
 
   abbrev pub noted_as : Bool → Sequence → Progress → Progress
   noted_as good q p =
@@ -41,7 +42,7 @@ module _ (cost : ℕ → ℕ) (limit : ℕ) where
   -- that is what the search notes
   pub noted_as_lem : (goal : List ℕ) (q : Sequence) (s : State) (p : Progress)
       → noted goal limit (cost_of cost q) q s p ≡ noted_as (meets_goal goal s) q p
-  unfolding noted noted_moves best_at best_of
+  unfolding noted noted_moves best_at as_plan
   noted_as_lem goal q s p = refl
 
   -- where the sequence itself tells whether it leads to the goal
@@ -56,7 +57,7 @@ module _ (cost : ℕ → ℕ) (limit : ℕ) where
     -- the best plan after q
     best_next : (q : Sequence) (c : Option Sequence)
         → best_as (good q) q (as_best (cost_of cost) c) ≡ as_best (cost_of cost) (best_after cost good q c)
-    unfolding replaces best_of no_best as_best
+    unfolding replaces as_plan as_best
     best_next q c = go (good q) c
       where
         chosen : (b : Bool) (p : Sequence) → cond b (as_best (cost_of cost) (some q)) (as_best (cost_of cost) (some p))
@@ -71,7 +72,7 @@ module _ (cost : ℕ → ℕ) (limit : ℕ) where
         go false c = refl
 
     -- once the limit is exceeded only the least cost falls, to that of what is met
-    fold_exceeded : (l : List Sequence) (n : ℕ) (b : Best) (f : ℕ) → limit ≤ n
+    fold_exceeded : (l : List Sequence) (n : ℕ) (b : Held Plan) (f : ℕ) → limit ≤ n
         → fold_over note_of (record { steps = n; exceeded = true; best = b; least = f }) l
         ≡ record { steps = n; exceeded = true; best = b; least = least_cost cost f l }
     fold_exceeded [] n b f h = refl
@@ -127,7 +128,7 @@ module _ (cost : ℕ → ℕ) (limit : ℕ) where
             let w = ih (omega arith) in
             let s : (n + 1) + length l ≡ n + length (q ∷ l) = omega arith in
             let d : limit - n ≡ suc (limit - (n + 1)) = omega arith in
-            subst (λ (b : Best). Counts n c f (q ∷ l)
+            subst (λ (b : Held Plan). Counts n c f (q ∷ l)
             (fold_over note_of (record { steps = n + 1; exceeded = false; best = b; least = f }) l))
             (sym (best_next q c)) (
               w.0 ∙ ap (λ m. min m limit) s,

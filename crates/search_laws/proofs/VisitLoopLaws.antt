@@ -12,13 +12,13 @@ use native.Mathlib.Omega.{arith}
 use lib.Dec.{leb, ltb, eqb}
 use lib.ListN.{length, get_or, take, replicate, length-append}
 use lib.Seq.{take_at}
-use borrow.Author.Tests.{leb-true, le-ltb, ltb-false}
+use borrow.Author.Tests.{le-ltb, ltb-false}
 use Rattle.theory_spec.specs.Lists.{numbers_from, only_if, padded}
 use Rattle.theory_spec.specs.How.Folds.{fold_over}
 use Rattle.theory_spec.specs.Sequences.{Sequence, cost_of}
 use Rattle.theory_spec.specs.How.Indices.{index_of}
 use Rattle.theory_spec.specs.How.Recursion.{last, enter_with}
-use Rattle.theory_spec.proofs.ListLaws.{and_split, not-both}
+use Rattle.theory_spec.proofs.ListLaws.{not-both}
 use Rattle.theory_spec.proofs.SequenceLaws.{cost-append, numbered-append}
 use Rattle.model_spec.specs.States.{State, applicable, successor}
 use Rattle.model_spec.proofs.LoopLaws.{rules_left}
@@ -55,13 +55,6 @@ enter_only c true true t visit = refl
 enter_only c false true t visit = refl
 enter_only c true false t visit = refl
 enter_only c false false t visit = refl
-
--- what the search goes on to costs no more than the cost bound, and fits where that fits
-pub goes_cheap : (total most room : ℕ) (b a goes : Bool) → goes ≡ ((leb total most && b) && a) → goes ≡ true
-    → most < room → total < room
-goes_cheap total most room b a goes e t h =
-    let w = leb-true total most (and_split (leb total most) b (and_split (leb total most && b) a (sym e ∙ t)).0).0
-    in omega arith
 
 -- the limit is exceeded, and the least cost beyond it is no higher than a cost: what costs as much or more changes
 -- nothing

@@ -4,10 +4,9 @@
 
 use model_spec::MOVE_LIMIT;
 
-// The best plan met so far. Its moves are rule numbers, with 255 in every other byte.
+// A plan that was met. Its moves are rule numbers, with 255 in every other byte.
 #[derive(Clone, Copy)]
-pub struct Best {
-    pub found: bool,
+pub struct Plan {
     pub cost: u16,
     pub length: u8,
     pub moves: [u8; MOVE_LIMIT],
@@ -19,7 +18,7 @@ pub struct Best {
 pub struct Progress {
     pub steps: u32,
     pub exceeded: bool,
-    pub best: Best,
+    pub best: Option<Plan>,
     pub least: u16,
 }
 

@@ -2,56 +2,33 @@
 // progress comes to: the outcome, and the floor.
 #![tactic(auto)]
 
-ghost use Rattle.std.specs.Prelude.{◌≡◌, min, take};
+ghost use Rattle.std.specs.Prelude.{◌≡◌, take};
 ghost use Rattle.model_spec.specs.Limits.{place_count};
 ghost use Rattle.search_spec.specs.Query.{meets_goal};
 ghost use Rattle.search_laws.specs.How.Visits.{replaces, noted_moves, outcome_of, floor_shown};
 
-use bounded::smaller;
 use model_spec::{MOVE_LIMIT, PLACE_COUNT};
-use search_laws::{Best, Progress};
+use search_laws::{Plan, Progress};
 use search_spec::ANY_VALUE;
 
 // Whether a state meets the first sixteen bytes of the goal: 255 in the goal asks for nothing.
 fn meets_goal(goal: &[u8], state: &[u8; PLACE_COUNT]) -> bool
     ensures { result ≡ meets_goal (take place_count goal.now) state.now }
 {
-    let held: &[u8] = state;
-    let end = smaller(goal.len(), PLACE_COUNT);
-    let mut i: usize = 0;
-    while i < end {
-        if goal[i] != ANY_VALUE {
-            if held[i] != goal[i] {
-                return false;
-            }
-        }
-        i += 1;
-    }
-    true
+    goal.iter()
+        .zip(state)
+        .all(|(wanted, held)| *wanted == ANY_VALUE || held == wanted)
 }
 
 // Whether a plan of that cost and that many moves replaces the best so far: it is cheaper, or costs the same and is
 // shorter. Of equals the first one met stays.
-fn replaces(best: Best, cost: u16, depth: u8) -> bool
+fn replaces(best: Option<Plan>, cost: u16, depth: u8) -> bool
     ensures { result ≡ replaces best cost depth }
 {
-    if !best.found {
-        return true;
+    match best {
+        None => true,
+        Some(former) => cost < former.cost || cost == former.cost && depth < former.length,
     }
-    if cost < best.cost {
-        return true;
-    }
-    if best.cost < cost {
-        return false;
-    }
-    depth < best.length
-}
-
-// The lower of two costs.
-fn lower(a: u16, b: u16) -> u16
-    ensures { result ≡ min a b }
-{
-    if a < b { a } else { b }
 }
 
 // Visits one sequence: the first `depth` moves of the plan, which have led to the state at that cost. At the limit it
@@ -70,64 +47,39 @@ pub fn noted(
         ≡ noted_moves (take place_count goal.now) step_limit cost depth
         plan.now state.now progress }
 {
-    let best = progress.best;
+    let mut after = progress;
     if step_limit <= progress.steps {
-        let least = lower(progress.least, cost);
-        return Progress {
-            steps: progress.steps,
-            exceeded: true,
-            best,
-            least,
-        };
+        after.exceeded = true;
+        after.least = progress.least.min(cost);
+        return after;
     }
-    let steps = progress.steps + 1;
-    if meets_goal(goal, state) {
-        if replaces(best, cost, depth) {
-            let moves = *plan;
-            let found = Best {
-                found: true,
-                cost,
-                length: depth,
-                moves,
-            };
-            return Progress {
-                steps,
-                exceeded: false,
-                best: found,
-                least: progress.least,
-            };
-        }
+    after.steps += 1;
+    after.exceeded = false;
+    if meets_goal(goal, state) && replaces(progress.best, cost, depth) {
+        after.best = Some(Plan {
+            cost,
+            length: depth,
+            moves: *plan,
+        });
     }
-    Progress {
-        steps,
-        exceeded: false,
-        best,
-        least: progress.least,
-    }
+    after
 }
 
 // The outcome of a query that is not refused, by whether its limit is exceeded and whether a plan is found.
 pub fn outcome_of(exceeded: bool, found: bool) -> u8
     ensures { result ≡ outcome_of exceeded found }
 {
-    if exceeded {
-        if found {
-            return 18;
-        }
-        return 16;
+    match (exceeded, found) {
+        (true, true) => 18,
+        (true, false) => 16,
+        (false, true) => 0,
+        (false, false) => 15,
     }
-    if !found {
-        return 15;
-    }
-    0
 }
 
 // The floor shown beside a plan: over the limit the lower of the plan's cost and the least cost met beyond it; else 0.
 pub fn floor_shown(exceeded: bool, cost: u16, least: u16) -> u16
     ensures { result ≡ floor_shown exceeded cost least }
 {
-    if !exceeded {
-        return 0;
-    }
-    lower(cost, least)
+    if exceeded { cost.min(least) } else { 0 }
 }

@@ -15,7 +15,7 @@ use model_spec::{MOVE_LIMIT, PLACE_COUNT, RULE_PLACES, RuleSet};
 use queries::query_refusal;
 use refusals_spec::Refusal;
 use rule_arrays::{conditions_of, costs_of, effects_of};
-use search_laws::{Best, Limits, Progress};
+use search_laws::{Limits, Progress};
 use search_progress::noted;
 use search_spec::{NO_MOVE, Query};
 use search_states::{goes_on, put_after, start_state};
@@ -130,16 +130,10 @@ pub fn explored(set: RuleSet, query: Query<'_>, plan_size: usize) -> Result<Prog
         },
     };
     let moves = [NO_MOVE; MOVE_LIMIT];
-    let best = Best {
-        found: false,
-        cost: 0,
-        length: 0,
-        moves,
-    };
     let blank = Progress {
         steps: 0,
         exceeded: false,
-        best,
+        best: None,
         least: TOP_COST,
     };
     let state = start_state(query.start);

@@ -11,6 +11,7 @@ use Rattle.search_spec.specs.Searched.{query_causes}
 use Rattle.search_spec.proofs.Demand.{without_plan}
 use Rattle.search_spec.proofs.OutcomeLaws.{searched-refused}
 use Rattle.search_laws.proofs.AnswerLaws.{left_with, answers, explored_planless, explored-room, explored-shown}
+use Rattle.search_laws.specs.How.Visits.{outcome_of}
 use Rattle.refusals_spec.proofs.NumberLaws.{number_positive}
 use Rattle.search.proofs.search.Goals as goal
 
@@ -24,30 +25,30 @@ returns-in-Err c =
     answers set query room _ _ (without_plan room c.number_of.result 0) c.without_plan.ensures
     (c.fill.ensures.after (λ y e. e)) (ap (λ n. without_plan room n 0) (c.number_of.ensures ∙ told) ∙ sym refused)
 
-pub returns-then-not-best : goal.returns-then-not-best
-returns-then-not-best c =
+pub returns-in-None : goal.returns-in-None
+returns-in-None c =
     let set = c.args.set in
     let query = query_of c.args.query in
     let room = length c.args.plan.now in
     let told = c.in-Ok.ensures.refusal ∙ ap (λ n. first_refusal (query_causes set query n)) c.fill.ensures.len in
     let progress = c.in-Ok.progress in
     let left = explored_planless set query room (sym told) progress c.in-Ok.ensures.progress _
-    c.outcome_of-outcome.ensures c.if-not-best.true in
-    answers set query room _ _ _ c.without_plan-then-not-best.ensures (c.fill.ensures.after (λ y e. e)) left
+    (c.outcome_of-outcome.ensures ∙ ap (outcome_of progress.exceeded) c.is_some.ensures) c.in-None.is in
+    answers set query room _ _ _ c.without_plan-in-None.ensures (c.fill.ensures.after (λ y e. e)) left
 
 pub slice_bounds-copy_from_slice-end : goal.slice_bounds-copy_from_slice-end
 slice_bounds-copy_from_slice-end c =
     let query = query_of c.args.query in
     let progress = c.in-Ok.progress in
     (explored-room c.args.set query _ (sym c.in-Ok.ensures.refusal) progress c.in-Ok.ensures.progress
-    c.if-not-best.false).1
+    c.in-Some.best c.in-Some.is).1
 
 pub slice_bounds-copy_from_slice-end-2 : goal.slice_bounds-copy_from_slice-end-2
 slice_bounds-copy_from_slice-end-2 c =
     let query = query_of c.args.query in
     let progress = c.in-Ok.progress in
     let fits = explored-room c.args.set query _ (sym c.in-Ok.ensures.refusal) progress c.in-Ok.ensures.progress
-    c.if-not-best.false in
+    c.in-Some.best c.in-Some.is in
     sym (length-take-le _ _ fits.1)
 
 pub shared_ref_as_front-copy_from_slice : goal.shared_ref_as_front-copy_from_slice
@@ -55,14 +56,14 @@ shared_ref_as_front-copy_from_slice c =
     let query = query_of c.args.query in
     let progress = c.in-Ok.progress in
     (explored-room c.args.set query _ (sym c.in-Ok.ensures.refusal) progress c.in-Ok.ensures.progress
-    c.if-not-best.false).0
+    c.in-Some.best c.in-Some.is).0
 
 pub copy_from_slice-requires : goal.copy_from_slice-requires
 copy_from_slice-requires c =
     let query = query_of c.args.query in
     let progress = c.in-Ok.progress in
     let fits = explored-room c.args.set query _ (sym c.in-Ok.ensures.refusal) progress c.in-Ok.ensures.progress
-    c.if-not-best.false in
+    c.in-Some.best c.in-Some.is in
     length-take-le _ _ fits.1 ∙ sym (length-take-le _ _ (search rules))
 
 pub returns : goal.returns
@@ -73,8 +74,9 @@ returns c =
     let told = c.in-Ok.ensures.refusal ∙ ap (λ n. first_refusal (query_causes set query n)) c.fill.ensures.len in
     let progress = c.in-Ok.progress in
     let left = explored-shown set query room (sym told) progress c.in-Ok.ensures.progress
-    c.if-not-best.false _ _
-    c.outcome_of-outcome.ensures c.floor_shown-floor.ensures c.fill.new.self (c.fill.ensures.after (λ y e. e)) in
+    c.in-Some.best c.in-Some.is _ _
+    (c.outcome_of-outcome.ensures ∙ ap (outcome_of progress.exceeded) c.is_some.ensures) c.floor_shown-floor.ensures
+    c.fill.new.self (c.fill.ensures.after (λ y e. e)) in
     answers set query room _ _
-    (left_with c.outcome_of-outcome.result progress.best progress.steps c.floor_shown-floor.result c.fill.new.self) refl
-    (ap (λ l. l ++ drop progress.best.length c.fill.new.self) c.copy_from_slice.ensures.after) left
+    (left_with c.outcome_of-outcome.result c.in-Some.best progress.steps c.floor_shown-floor.result c.fill.new.self) refl
+    (ap (λ l. l ++ drop c.in-Some.best.length c.fill.new.self) c.copy_from_slice.ensures.after) left

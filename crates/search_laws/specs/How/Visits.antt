@@ -1,8 +1,9 @@
 -- How the search goes about it, over what it lends to itself: the rules' lines and costs, the look-up, the goal and the
 -- limits. No promise of a call needs this file, only those of functions below the calls; the laws in proofs/ equate it
 -- with the definitions of `search_spec`.
-use Rattle.std.specs.Prelude.{◌≡◌, Bool, true, false, not, cond, ◌&&◌, ◌||◌, List, [], ◌∷◌, ℕ, zero, suc, ◌+◌, ◌-◌, ◌≤◌}
-use Rattle.std.specs.Prelude.{◌<◌, min, leb, ltb, eqb, length, get_or, take, drop, replicate}
+use Rattle.std.specs.Prelude.{◌≡◌, Bool, true, false, cond, ◌&&◌, ◌||◌, List, [], ◌∷◌, ℕ, zero, suc, ◌+◌, ◌-◌, ◌≤◌}
+use Rattle.std.specs.Prelude.{◌<◌, min, leb, ltb, eqb, length, get_or, take, drop}
+use Rattle.std.specs.Prelude.{Option as Held, Some, None}
 use Rattle.std.proofs.Math.Option.{Option, some, none}
 use Rattle.theory_spec.specs.Lists.{only_if, padded, same}
 use Rattle.theory_spec.specs.Sequences.{Sequence, cost_of, Numbered}
@@ -16,7 +17,7 @@ use Rattle.model_spec.specs.Rules.{step_of, rule_cost, sequence_cost}
 use Rattle.model_spec.specs.declared.RuleSet.{RuleSet}
 use Rattle.search_spec.specs.Query.{Query, start_state, meets_goal, visited_by}
 use Rattle.search_spec.specs.Searched.{no_move}
-use Rattle.search_laws.specs.declared.Best.{Best}
+use Rattle.search_laws.specs.declared.Plan.{Plan}
 use Rattle.search_laws.specs.declared.Progress.{Progress}
 use Rattle.search_laws.specs.declared.Limits.{Limits}
 
@@ -53,21 +54,18 @@ may_go_on costs blocked limits q =
 
 -- a plan of n moves at a cost replaces the best so far: there is none yet, or it is cheaper, or costs the same and is
 -- shorter
-unfoldable pub replaces : Best → ℕ → ℕ → Bool
-replaces former cost n =
-    not former.found || (ltb cost former.cost || (eqb cost former.cost && ltb n former.length))
+unfoldable pub replaces : Held Plan → ℕ → ℕ → Bool
+replaces None cost n = true
+replaces (Some former) cost n = ltb cost former.cost || (eqb cost former.cost && ltb n former.length)
 
--- a sequence, at its cost, as the best plan; and no plan
-unfoldable pub best_of : ℕ → Sequence → Best
-best_of cost q = record { found = true; cost = cost; length = length q; moves = padded move_limit no_move q }
-
-unfoldable pub no_best : Best
-no_best = record { found = false; cost = 0; length = 0; moves = replicate move_limit no_move }
+-- a sequence, at its cost, as a plan
+unfoldable pub as_plan : ℕ → Sequence → Plan
+as_plan cost q = record { cost = cost; length = length q; moves = padded move_limit no_move q }
 
 -- the best plan after one whose n moves stand in an array, which costs so much and has led to the state s
-unfoldable pub best_at : List ℕ → ℕ → ℕ → List ℕ → State → Best → Best
+unfoldable pub best_at : List ℕ → ℕ → ℕ → List ℕ → State → Held Plan → Held Plan
 best_at goal cost n moves s former =
-    cond (meets_goal goal s && replaces former cost n) (record { found = true; cost = cost; length = n; moves = moves })
+    cond (meets_goal goal s && replaces former cost n) (Some (record { cost = cost; length = n; moves = moves }))
     former
 
 -- what visiting a sequence, whose n moves stand in an array, makes of the progress: one step more, if the limit allows
@@ -84,7 +82,7 @@ noted goal limit cost q = noted_moves goal limit cost (length q) (padded move_li
 
 -- the progress before any sequence is visited
 unfoldable pub no_progress : Progress
-no_progress = record { steps = 0; exceeded = false; best = no_best; least = 65535 }
+no_progress = record { steps = 0; exceeded = false; best = None; least = 65535 }
 
 -- the progress after the sequence q, which has led to the state s, and all that extends it by at most n rules
 unfoldable pub visits_from : List (List ℕ) → List (List ℕ) → List ℕ → List ℕ → List ℕ → Limits
@@ -124,9 +122,9 @@ pub record Reached (costs : List ℕ) (limits : Limits) (state plan : List ℕ) 
 -- ── What the whole search comes to ───────────────────────────────────────────────────────────────
 
 -- a plan, or none, as the best one
-unfoldable pub as_best : (Sequence → ℕ) → Option Sequence → Best
-as_best cost none = no_best
-as_best cost (some q) = best_of (cost q) q
+unfoldable pub as_best : (Sequence → ℕ) → Option Sequence → Held Plan
+as_best cost none = None
+as_best cost (some q) = Some (as_plan (cost q) q)
 
 -- the progress of the whole search: the steps are the visited sequences up to the limit; the best plan is the best of
 -- these, and beside it stands the least cost of the others

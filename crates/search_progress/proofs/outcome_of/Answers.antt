@@ -2,18 +2,18 @@
 use Rattle.search_laws.specs.How.Visits.{outcome_of}
 use Rattle.search_progress.proofs.outcome_of.Goals as goal
 
-pub returns-then-found : goal.returns-then-found
+pub returns-in-true-true : goal.returns-in-true-true
 unfolding outcome_of
-returns-then-found c = rw (c.if-exceeded.true, c.if-found.true)
+returns-in-true-true c = rw (c.in-true-true.is-0, c.in-true-true.is-1)
 
-pub returns-then-exceeded : goal.returns-then-exceeded
+pub returns-in-true-false : goal.returns-in-true-false
 unfolding outcome_of
-returns-then-exceeded c = rw (c.if-exceeded.true, c.if-found.false)
+returns-in-true-false c = rw (c.in-true-false.is-0, c.in-true-false.is-1)
 
-pub returns-then-not-found : goal.returns-then-not-found
+pub returns-in-false-true : goal.returns-in-false-true
 unfolding outcome_of
-returns-then-not-found c = rw (c.if-exceeded.false, c.if-not-found.true)
+returns-in-false-true c = rw (c.in-false-true.is-0, c.in-false-true.is-1)
 
-pub returns : goal.returns
+pub returns-in-false-false : goal.returns-in-false-false
 unfolding outcome_of
-returns c = rw (c.if-exceeded.false, c.if-not-found.false)
+returns-in-false-false c = rw (c.in-false-false.is-0, c.in-false-false.is-1)

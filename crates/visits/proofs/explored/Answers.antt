@@ -3,7 +3,7 @@
 use mathlib.Core.Path.{refl, sym, ◌∙◌, ap}
 use Rattle.search_spec.specs.Query.{query_of}
 use Rattle.refusals_spec.specs.Numbers.{outcome_number}
-use Rattle.search_laws.specs.How.Visits.{no_best, no_progress}
+use Rattle.search_laws.specs.How.Visits.{no_progress}
 use Rattle.search_laws.proofs.ExploredLaws.{explored-whole, unrefused}
 use Rattle.search_laws.proofs.LentLaws.{lent-whole, reached-first}
 use Rattle.visits.proofs.explored.Goals as goal
@@ -19,7 +19,7 @@ visit_from-requires c =
     )
 
 pub returns-clause-progress : goal.returns-clause-progress
-unfolding no_best no_progress
+unfolding no_progress
 returns-clause-progress c =
     let a = c.args in
     let query = query_of a.query in
