@@ -24,82 +24,41 @@
 // or by hand. Those of the small tables, and the sums where there is a pattern, were worked out by hand as well.
 #![tactic(auto)]
 
-ghost use Rattle.std.specs.Prelude.{◌*◌, ◌≤◌, ◌<◌, length};
+ghost use Rattle.std.specs.Prelude.{◌*◌, ◌≤◌, length};
 
-use buffers::fill_from;
 use cases_buffers::{put_byte, put_entry};
-use cases_common::{behind, decode, find, number_of, up_to};
+use cases_common::{decode, number_of, shown, split_once, up_to};
 use macros_spec::Touched;
 use model_spec::RuleSet;
 use standard_input::{large_buffer, read_full};
 use std::io;
 use tables::{KEPT, entry_at};
 
-fn print(rt: &impl Print, text: &[u8]) -> io::Result<()> {
-    rt.write_all(text)
-}
-
-fn print_number(rt: &impl Print, n: u64) -> io::Result<()> {
-    rt.print(n)
-}
-
-fn print_byte(rt: &impl Print, n: u8) -> io::Result<()> {
-    print_number(rt, n as u64)
-}
-
-// Whether a table is zeros throughout.
-fn zeros(table: &[u8]) -> bool {
-    for i in 0..table.len() {
-        if table[i] != 0 {
-            return false;
-        }
-    }
-    true
-}
-
-// Puts one value, as `6:7`, into the table: an entry at its index or a byte at its place.
-fn put(entries: bool, text: &[u8], table: &mut [u8]) {
-    let at = number_of(up_to(b':', text));
-    let value = number_of(behind(b':', text));
-    if entries {
-        put_entry(at, value, table);
-        return;
-    }
-    put_byte(at, value, table);
-}
-
-// Puts all values of a text into the table.
-fn put_all(entries: bool, text: &[u8], table: &mut [u8]) {
-    let mut from: usize = 0;
-    while from < text.len() {
-        let rest = &text[from..];
-        let size = find(b',', rest);
-        put(entries, &rest[0..size], table);
-        from += size + 1;
+// Puts all values of a text, as `6:7,16:12`, into the table, each by the function: an entry at its index or a byte at
+// its place.
+fn put_all<F: Fn(usize, usize, &mut [u8])>(text: &[u8], table: &mut [u8], put: F)
+    requires { F.IsAlwaysCallable put }
+{
+    for part in text.split_inclusive(|b| *b == b',') {
+        let (place, value) = split_once(b':', up_to(b',', part));
+        put(number_of(place), number_of(value), table);
     }
 }
 
 // The index of a sequence without its last rule; of the empty sequence its own.
 fn shorter(count: u8, index: usize) -> usize {
-    if index == 0 {
-        return 0;
-    }
-    if count == 0 {
-        return 0;
-    }
-    (index - 1) / count as usize
+    index
+        .saturating_sub(1)
+        .checked_div(count as usize)
+        .unwrap_or(0)
 }
 
 // The last rule of the sequence of an index, if it has one.
 fn print_last(rt: &impl Print, count: u8, index: usize) -> io::Result<()> {
-    if index == 0 {
+    if index == 0 || count == 0 {
         return Ok(());
     }
-    if count == 0 {
-        return Ok(());
-    }
-    let rule = (index - 1) % count as usize + 1;
-    print_number(rt, rule as u64)
+    print!(rt; "{}", (index - 1) % count as usize + 1)
 }
 
 // The rules of a sequence but for its last, each with a comma.
@@ -108,11 +67,11 @@ fn print_front(rt: &impl Print, count: u8, index: usize) -> io::Result<()> {
     let first = shorter(count, front);
     if first != 0 {
         print_last(rt, count, first)?;
-        print(rt, b",")?;
+        print!(rt; ",")?;
     }
     if front != 0 {
         print_last(rt, count, front)?;
-        print(rt, b",")?;
+        print!(rt; ",")?;
     }
     Ok(())
 }
@@ -128,146 +87,86 @@ fn print_mark(rt: &impl Print, count: u8, index: usize, entry: usize) -> io::Res
     if entry == KEPT {
         return Ok(());
     }
-    print(rt, b"; ")?;
+    print!(rt; "; ")?;
     print_sequence(rt, count, index)?;
-    print(rt, b" for ")?;
+    print!(rt; " for ")?;
     print_sequence(rt, count, entry)
 }
 
 // All marks of a table, in order.
 fn print_marks(rt: &impl Print, count: u8, table: &[u8]) -> io::Result<()> {
     for i in 0..table.len() / 2 {
-        let entry = entry_at(table, i);
-        print_mark(rt, count, i, entry)?;
+        print_mark(rt, count, i, entry_at(table, i))?;
     }
     Ok(())
-}
-
-// 1 for a mark, 0 for an entry that keeps its sequence.
-fn mark(entry: usize) -> usize
-    ensures { result ≤ 1 }
-{
-    if entry == KEPT {
-        return 0;
-    }
-    1
-}
-
-// What a mark adds to the sum.
-fn weight(index: usize, entry: usize) -> usize
-    requires { (index < 32768)
-        × (entry < 65536) }
-    ensures { result ≤ 2147483648 }
-{
-    if entry == KEPT {
-        return 0;
-    }
-    index * (entry + 1)
 }
 
 // How many marks a table has.
 fn marks_of(table: &[u8]) -> usize
     ensures { 2 * result ≤ length table.now }
 {
-    let mut marks: usize = 0;
-    for i in 0..table.len() / 2 {
-        let entry = entry_at(table, i);
-        marks += mark(entry);
+    (0..table.len() / 2)
+        .filter(|i| entry_at(table, *i) != KEPT)
+        .count()
+}
+
+// What the entry at an index adds to the sum: nothing, if it is no mark.
+fn weight(index: usize, entry: usize) -> usize {
+    if entry == KEPT {
+        return 0;
     }
-    marks
+    index.saturating_mul(entry.saturating_add(1))
 }
 
 // The sum over the marks of the index times one more than the witness.
-fn sum_of(table: &[u8]) -> usize
-    requires { length table.now ≤ 65536 }
-{
-    let mut sum: usize = 0;
-    for i in 0..table.len() / 2 {
-        let entry = entry_at(table, i);
-        sum += weight(i, entry);
-    }
-    sum
+fn sum_of(table: &[u8]) -> usize {
+    (0..table.len() / 2).fold(0, |sum: usize, i| {
+        sum.saturating_add(weight(i, entry_at(table, i)))
+    })
 }
 
 // The marks of a table, or their number and their sum, and how many entries are kept.
-fn print_table(rt: &impl Print, count: u8, table: &[u8]) -> io::Result<()>
-    requires { length table.now ≤ 65536 }
-{
+fn print_table(rt: &impl Print, count: u8, table: &[u8]) -> io::Result<()> {
     let marks = marks_of(table);
     if marks <= 60 {
         print_marks(rt, count, table)?;
     } else {
-        print(rt, b"; ")?;
-        print_number(rt, marks as u64)?;
-        print(rt, b" marks, sum ")?;
-        print_number(rt, sum_of(table) as u64)?;
+        print!(rt; "; {marks} marks, sum {}", sum_of(table))?;
     }
-    print(rt, b"; ")?;
-    print_number(rt, (table.len() / 2 - marks) as u64)?;
-    print(rt, b" kept")
+    print!(rt; "; {} kept", table.len() / 2 - marks)
 }
 
 // What a refused build leaves.
 fn print_refused(rt: &impl Print, table: &[u8]) -> io::Result<()> {
-    if zeros(table) {
-        return print(rt, b" zeros");
+    if table.iter().all(|b| *b == 0) {
+        return print!(rt; " zeros");
     }
-    print(rt, b" not zeros")
+    print!(rt; " not zeros")
 }
 
 // The positions that the marked sequences read and write, as numbers.
 fn print_touched(rt: &impl Print, touched: Touched) -> io::Result<()> {
-    print(rt, b"; reads ")?;
-    print_number(rt, touched.reads as u64)?;
-    print(rt, b"; writes ")?;
-    print_number(rt, touched.writes as u64)
+    print!(rt; "; reads {}; writes {}", touched.reads, touched.writes)
 }
 
 // What a check gives.
 fn print_check(rt: &impl Print, set: RuleSet, reach: usize, table: &[u8]) -> io::Result<()> {
     let answer = checker::check_table(set, reach, table);
-    print_byte(rt, answer.outcome)?;
+    print!(rt; "{}", answer.outcome)?;
     print_touched(rt, answer.touched)
 }
 
 // Builds a table over bytes of 170.
-fn print_built(rt: &impl Print, set: RuleSet, reach: usize, table: &mut [u8]) -> io::Result<()>
-    requires { length table.old ≤ 65536 }
-{
-    fill_from(table, 0, 170);
+fn print_built(rt: &impl Print, set: RuleSet, reach: usize, table: &mut [u8]) -> io::Result<()> {
+    table.fill(170);
     let answer = builder::build_table(set, reach, table);
-    print_byte(rt, answer.outcome)?;
+    print!(rt; "{}", answer.outcome)?;
     if answer.outcome == 0 {
         print_table(rt, set.count, table)?;
     } else {
         print_refused(rt, table)?;
     }
     print_touched(rt, answer.touched)
-}
-
-// Checks a table of these entries, the others kept.
-fn print_checked(
-    rt: &impl Print,
-    set: RuleSet,
-    reach: usize,
-    entries: &[u8],
-    table: &mut [u8],
-) -> io::Result<()> {
-    fill_from(table, 0, 255);
-    put_all(true, entries, table);
-    print_check(rt, set, reach, table)
-}
-
-// Checks the table with these bytes changed.
-fn print_changed(
-    rt: &impl Print,
-    set: RuleSet,
-    reach: usize,
-    bytes: &[u8],
-    table: &mut [u8],
-) -> io::Result<()> {
-    put_all(false, bytes, table);
-    print_check(rt, set, reach, table)
 }
 
 // The answer to `b`, `c` or `k`, on a front part of the table.
@@ -277,23 +176,24 @@ fn run_table(
     verb: u8,
     text: &[u8],
     table: &mut [u8],
-) -> io::Result<()>
-    requires { length table.old ≤ 65536 }
-{
-    let reach = number_of(up_to(b' ', text));
-    let fields = behind(b' ', text);
-    let size = number_of(up_to(b' ', fields));
-    let values = behind(b' ', fields);
+) -> io::Result<()> {
+    let (reach, rest) = split_once(b' ', text);
+    let (size, values) = split_once(b' ', rest);
+    let reach = number_of(reach);
+    let size = number_of(size);
     if table.len() < size {
         return Ok(());
     }
-    if verb == b'b' {
-        return print_built(rt, set, reach, &mut table[0..size]);
+    let part = &mut table[..size];
+    match verb {
+        b'b' => return print_built(rt, set, reach, part),
+        b'c' => {
+            part.fill(255);
+            put_all(values, part, put_entry);
+        }
+        _ => put_all(values, part, put_byte),
     }
-    if verb == b'c' {
-        return print_checked(rt, set, reach, values, &mut table[0..size]);
-    }
-    print_changed(rt, set, reach, values, &mut table[0..size])
+    print_check(rt, set, reach, part)
 }
 
 // The sequence of an index, and its entry.
@@ -302,34 +202,32 @@ fn print_entry(rt: &impl Print, count: u8, text: &[u8], table: &[u8]) -> io::Res
     let entry = entry_at(table, index);
     print_sequence(rt, count, index)?;
     if entry == KEPT {
-        return print(rt, b" kept");
+        return print!(rt; " kept");
     }
-    print(rt, b" for ")?;
+    print!(rt; " for ")?;
     print_sequence(rt, count, entry)?;
-    print(rt, b", index ")?;
-    print_number(rt, entry as u64)
+    print!(rt; ", index {entry}")
 }
 
 // The set of a text, with its outcome printed.
 fn read_set(rt: &impl Print, text: &[u8]) -> io::Result<RuleSet> {
     let mut file = large_buffer();
     let size = decode(text, &mut file);
-    let reading = reader::read(&file[0..size]);
-    print_byte(rt, reading.outcome)?;
+    let reading = reader::read(&file[..size]);
+    print!(rt; "{}", reading.outcome)?;
     Ok(reading.set)
 }
 
 // The set with two of its numbers changed, and whether it is valid printed.
 fn changed_set(rt: &impl Print, set: RuleSet, text: &[u8]) -> io::Result<RuleSet> {
-    let positions = number_of(up_to(b',', text));
-    let count = number_of(behind(b',', text));
+    let (positions, count) = split_once(b',', text);
     let mut other = set;
-    other.positions = (positions % 256) as u8;
-    other.count = (count % 256) as u8;
+    other.positions = (number_of(positions) % 256) as u8;
+    other.count = (number_of(count) % 256) as u8;
     if validity::is_valid(other) {
-        print(rt, b"valid")?;
+        print!(rt; "valid")?;
     } else {
-        print(rt, b"not valid")?;
+        print!(rt; "not valid")?;
     }
     Ok(other)
 }
@@ -341,62 +239,43 @@ fn answer(
     verb: u8,
     text: &[u8],
     table: &mut [u8],
-) -> io::Result<RuleSet>
-    requires { length table.old ≤ 65536 }
-{
-    if verb == b'f' {
-        return read_set(rt, text);
+) -> io::Result<RuleSet> {
+    match verb {
+        b'f' => return read_set(rt, text),
+        b's' => return changed_set(rt, set, text),
+        b'e' => print_entry(rt, set.count, text, table)?,
+        _ => run_table(rt, set, verb, text, table)?,
     }
-    if verb == b's' {
-        return changed_set(rt, set, text);
-    }
-    if verb == b'e' {
-        print_entry(rt, set.count, text, table)?;
-        return Ok(set);
-    }
-    run_table(rt, set, verb, text, table)?;
     Ok(set)
 }
 
 // The line, cut at 120 bytes.
 fn print_line(rt: &impl Print, line: &[u8]) -> io::Result<()> {
-    if line.len() <= 120 {
-        return print(rt, line);
-    }
-    print(rt, &line[0..120])?;
-    print(rt, b"..")
+    let (front, dots) = shown(line);
+    rt.write_all(front)?;
+    rt.write_all(dots)
 }
 
 // One case, or a heading, on a line of the input; gives the set of the next line.
-fn run(rt: &impl Print, set: RuleSet, line: &[u8], table: &mut [u8]) -> io::Result<RuleSet>
-    requires { length table.old ≤ 65536 }
-{
-    if line.len() < 2 {
+fn run(rt: &impl Print, set: RuleSet, line: &[u8], table: &mut [u8]) -> io::Result<RuleSet> {
+    let [verb, _, text @ ..] = line else {
         return Ok(set);
-    }
+    };
+    let mut next = set;
     print_line(rt, line)?;
-    if line[0] == b'#' {
-        print(rt, b"\n")?;
-        return Ok(set);
+    if *verb != b'#' {
+        print!(rt; ": ")?;
+        next = answer(rt, set, *verb, text, table)?;
     }
-    print(rt, b": ")?;
-    let next = answer(rt, set, line[0], &line[2..], table)?;
-    print(rt, b"\n")?;
+    print!(rt; "\n")?;
     Ok(next)
 }
 
 // The cases of all lines; the set of the first is the empty one.
-fn run_lines(rt: &impl Print, input: &[u8], table: &mut [u8]) -> io::Result<()>
-    requires { length table.old ≤ 65536 }
-{
-    let empty = reader::read(b"");
-    let mut set = empty.set;
-    let mut from: usize = 0;
-    while from < input.len() {
-        let rest = &input[from..];
-        let size = find(b'\n', rest);
-        set = run(rt, set, &rest[0..size], table)?;
-        from += size + 1;
+fn run_lines(rt: &impl Print, input: &[u8], table: &mut [u8]) -> io::Result<()> {
+    let mut set = reader::read(b"").set;
+    for line in input.split(|b| *b == b'\n') {
+        set = run(rt, set, line, table)?;
     }
     Ok(())
 }

@@ -1,6 +1,0 @@
--- Each turn leaves less of the text.
-use Rattle.std.proofs.Common.{◌-◌, length}
-use Rattle.cases_tables.proofs.put_all.Given as goal
-
-abbrev pub decreases-loop-from : goal.decreases-loop-from
-decreases-loop-from l = length l.text - l.from
