@@ -11,231 +11,146 @@
 // The answers that `stdout` holds were written by hand from documents 01 and 02.
 #![tactic(auto)]
 
-ghost use Rattle.std.specs.Prelude.{◌≤◌, length};
-
-use cases_common::find;
+use cases_common::shown;
 use model_spec::{Rule, RuleSet};
 use standard_input::{large_buffer, read_full};
+use std::alloc::{AllocError, Global};
 use std::io;
-
-fn print(rt: &impl Print, text: &[u8]) -> io::Result<()> {
-    rt.write_all(text)
-}
-
-fn print_number(rt: &impl Print, n: u64) -> io::Result<()> {
-    rt.print(n)
-}
-
-fn print_byte(rt: &impl Print, n: u8) -> io::Result<()> {
-    print_number(rt, n as u64)
-}
 
 // The byte that a letter stands for after `\`.
 fn escaped(letter: u8) -> u8 {
-    if letter == b'r' {
-        return b'\r';
+    match letter {
+        b'r' => b'\r',
+        b't' => b'\t',
+        b'0' => 0,
+        b'h' => 178,
+        other => other,
     }
-    if letter == b't' {
-        return b'\t';
-    }
-    if letter == b'0' {
-        return 0;
-    }
-    if letter == b'h' {
-        return 178;
-    }
-    letter
 }
 
-// The byte at a place of a text; 0 after its end.
-fn byte_at(text: &[u8], i: usize) -> u8 {
-    if i < text.len() {
-        return text[i];
+// The text that a part of the input stands for. A `\` at its end stands for 0.
+fn decoded(alloc: Global, input: &[u8]) -> Result<Vec<u8>, AllocError> {
+    let mut text = Vec::new(alloc);
+    let mut bytes = input.iter();
+    while let Some(byte) = bytes.next() {
+        text.push(match *byte {
+            b'/' => b'\n',
+            b'\\' => escaped(bytes.next().copied().unwrap_or(0)),
+            other => other,
+        })?;
     }
-    0
-}
-
-// Puts the text that a part of the input stands for into a buffer, as far as there is room; gives its length.
-fn decode(input: &[u8], text: &mut [u8]) -> usize
-    ensures { result ≤ length text.old }
-{
-    let mut i: usize = 0;
-    let mut count: usize = 0;
-    while count < text.len() {
-        if input.len() <= i {
-            return count;
-        }
-        let mut byte = input[i];
-        i += 1;
-        if byte == b'/' {
-            byte = b'\n';
-        }
-        if byte == b'\\' {
-            byte = escaped(byte_at(input, i));
-            i += 1;
-        }
-        text[count] = byte;
-        count += 1;
-    }
-    count
+    Ok(text)
 }
 
 // Whether a list is zero throughout.
 fn zeros(list: &[u8]) -> bool {
-    holds(list, b"")
+    list.iter().all(|b| *b == 0)
 }
 
 // Whether a rule is zero throughout.
-fn zero_rule(rule: Rule) -> bool {
-    let condition = rule.condition;
-    let effect = rule.effect;
-    if rule.cost != 0 {
-        return false;
-    }
-    if !zeros(&condition) {
-        return false;
-    }
-    zeros(&effect)
+fn zero_rule(rule: &Rule) -> bool {
+    rule.cost == 0 && zeros(&rule.condition) && zeros(&rule.effect)
 }
 
 // Whether a set is zero throughout.
-fn zero_set(set: RuleSet) -> bool {
-    let sizes = set.sizes;
-    if set.positions != 0 {
-        return false;
-    }
-    if set.count != 0 {
-        return false;
-    }
-    for k in 0..31usize {
-        let rule = set.rules[k];
-        if !zero_rule(rule) {
-            return false;
-        }
-    }
-    zeros(&sizes)
-}
-
-// The outcome of a text, as a digit.
-fn print_outcome(rt: &impl Print, text: &[u8]) -> io::Result<()> {
-    let reading = reader::read(text);
-    print_byte(rt, reading.outcome)
+fn zero_set(set: &RuleSet) -> bool {
+    set.positions == 0
+        && set.count == 0
+        && zeros(&set.sizes)
+        && set.rules.iter().all(|rule| zero_rule(rule))
 }
 
 // The outcome of a text, and what a refusal leaves of the set.
 fn print_reading(rt: &impl Print, text: &[u8]) -> io::Result<()> {
     let reading = reader::read(text);
-    print_byte(rt, reading.outcome)?;
+    print!(rt; "{}", reading.outcome)?;
     if reading.outcome == 0 {
         return Ok(());
     }
-    if zero_set(reading.set) {
-        return print(rt, b" empty");
+    if zero_set(&reading.set) {
+        return print!(rt; " empty");
     }
-    print(rt, b" not empty")
+    print!(rt; " not empty")
 }
 
-// The outcomes of all front parts, from the empty one to the whole.
+// The outcomes of all front parts, from the empty one to the whole, a digit each.
 fn print_cuts(rt: &impl Print, text: &[u8]) -> io::Result<()> {
     for cut in 0..=text.len() {
-        print_outcome(rt, &text[0..cut])?;
+        let reading = reader::read(&text[..cut]);
+        print!(rt; "{}", reading.outcome)?;
     }
     Ok(())
 }
 
 // Whether the buffer holds the text and then zeros.
 fn holds(buffer: &[u8], text: &[u8]) -> bool {
-    for i in 0..buffer.len() {
-        if buffer[i] != byte_at(text, i) {
-            return false;
-        }
-    }
-    true
+    let size = text.len().min(buffer.len());
+    buffer[..size] == text[..size] && zeros(&buffer[size..])
 }
 
 // What the buffer holds: nothing but zeros, the text and then zeros, or something else.
 fn print_content(rt: &impl Print, buffer: &[u8], text: &[u8]) -> io::Result<()> {
     if zeros(buffer) {
-        return print(rt, b"zeros");
+        return print!(rt; "zeros");
     }
     if holds(buffer, text) {
-        return print(rt, b"text");
+        return print!(rt; "text");
     }
-    print(rt, b"other")
+    print!(rt; "other")
 }
 
 // Writes a set into a buffer of so many bytes, full of `z` before: outcome, length and what the buffer then holds.
-// Nothing for more than 65,536 bytes.
-fn print_written(rt: &impl Print, set: RuleSet, text: &[u8], size: usize) -> io::Result<()> {
-    let mut space = [b'z'; 65536];
-    if 65536 < size {
-        return Ok(());
-    }
-    let buffer = &mut space[0..size];
-    let written = writer::write(set, buffer);
-    print_byte(rt, written.outcome)?;
-    print(rt, b",")?;
-    print_number(rt, written.length as u64)?;
-    print(rt, b",")?;
-    print_content(rt, buffer, text)
+fn print_written(
+    rt: &(impl Print + AllocGlobal),
+    set: RuleSet,
+    text: &[u8],
+    size: usize,
+) -> io::Result<()> {
+    let mut buffer = vec![in rt.alloc(); b'z'; size]?;
+    let written = writer::write(set, &mut buffer);
+    print!(rt; "{},{},", written.outcome, written.length)?;
+    print_content(rt, &buffer, text)
 }
 
 // Writes the set of a text into five buffers. Nothing for the empty text.
-fn print_rewritten(rt: &impl Print, text: &[u8]) -> io::Result<()> {
-    let reading = reader::read(text);
-    let set = reading.set;
+fn print_rewritten(rt: &(impl Print + AllocGlobal), text: &[u8]) -> io::Result<()> {
+    let set = reader::read(text).set;
     let size = text.len();
     if size == 0 {
         return Ok(());
     }
     print_written(rt, set, text, 0)?;
-    print(rt, b" ")?;
-    print_written(rt, set, text, size - 1)?;
-    print(rt, b" ")?;
-    print_written(rt, set, text, size)?;
-    print(rt, b" ")?;
-    print_written(rt, set, text, size + 1)?;
-    print(rt, b" ")?;
-    print_written(rt, set, text, 65536)
+    for wide in [size - 1, size, size + 1, 65536] {
+        print!(rt; " ")?;
+        print_written(rt, set, text, wide)?;
+    }
+    Ok(())
 }
 
 // The numbers of a list, a space before each.
 fn print_list(rt: &impl Print, list: &[u8]) -> io::Result<()> {
-    for i in 0..list.len() {
-        print(rt, b" ")?;
-        print_byte(rt, list[i])?;
+    for number in list {
+        print!(rt; " {number}")?;
     }
     Ok(())
 }
 
 // A rule: its cost, condition and effect.
-fn print_rule(rt: &impl Print, rule: Rule) -> io::Result<()> {
-    let condition = rule.condition;
-    let effect = rule.effect;
-    print(rt, b"; cost ")?;
-    print_byte(rt, rule.cost)?;
-    print(rt, b" if")?;
-    print_list(rt, &condition)?;
-    print(rt, b" then")?;
-    print_list(rt, &effect)
+fn print_rule(rt: &impl Print, rule: &Rule) -> io::Result<()> {
+    print!(rt; "; cost {} if", rule.cost)?;
+    print_list(rt, &rule.condition)?;
+    print!(rt; " then")?;
+    print_list(rt, &rule.effect)
 }
 
 // The set of a text.
 fn print_set(rt: &impl Print, text: &[u8]) -> io::Result<()> {
-    let reading = reader::read(text);
-    let set = reading.set;
-    let sizes = set.sizes;
-    print_byte(rt, set.positions)?;
-    print(rt, b" positions, sizes")?;
-    print_list(rt, &sizes)?;
-    print(rt, b", ")?;
-    print_byte(rt, set.count)?;
-    print(rt, b" rules")?;
-    for k in 0..31usize {
-        if k < set.count as usize {
-            let rule = set.rules[k];
-            print_rule(rt, rule)?;
-        }
+    let set = reader::read(text).set;
+    print!(rt; "{} positions, sizes", set.positions)?;
+    print_list(rt, &set.sizes)?;
+    print!(rt; ", {} rules", set.count)?;
+    for rule in set.rules.iter().take(set.count as usize) {
+        print_rule(rt, rule)?;
     }
     Ok(())
 }
@@ -245,131 +160,82 @@ fn print_set(rt: &impl Print, text: &[u8]) -> io::Result<()> {
 // spoils nothing; in any other way the set itself.
 fn spoiled(set: RuleSet, way: u8) -> RuleSet {
     let mut other = set;
-    let mut sizes = set.sizes;
-    let mut rules = set.rules;
-    let mut first = rules[0];
-    let mut last = rules[30];
-    let mut condition = first.condition;
-    let mut effect = first.effect;
-    if way == 0 {
-        other.positions = 0;
+    let mut first = set.rules[0];
+    match way {
+        0 => other.positions = 0,
+        1 => other.positions = 255,
+        2 => other.sizes[15] = 2,
+        3 => other.count = 0,
+        4 => other.count = 255,
+        5 => first.condition[15] = 1,
+        6 => first.effect[0] = 255,
+        7 => other.rules[30].cost = 1,
+        8 => other.sizes[0] = 1,
+        9 => other.sizes[0] = 17,
+        10 => first.condition[0] = 17,
+        11 => {
+            other.rules[1] = first;
+            other.count = 2;
+        }
+        12 => {
+            other.rules[1] = Rule { cost: 9, ..first };
+            other.count = 2;
+        }
+        _ => {}
     }
-    if way == 1 {
-        other.positions = 255;
-    }
-    if way == 2 {
-        sizes[15] = 2;
-    }
-    if way == 3 {
-        other.count = 0;
-    }
-    if way == 4 {
-        other.count = 255;
-    }
-    if way == 5 {
-        condition[15] = 1;
-    }
-    if way == 6 {
-        effect[0] = 255;
-    }
-    if way == 7 {
-        last.cost = 1;
-    }
-    if way == 8 {
-        sizes[0] = 1;
-    }
-    if way == 9 {
-        sizes[0] = 17;
-    }
-    if way == 10 {
-        condition[0] = 17;
-    }
-    first.condition = condition;
-    first.effect = effect;
-    rules[0] = first;
-    rules[30] = last;
-    if way == 11 {
-        rules[1] = first;
-        other.count = 2;
-    }
-    if way == 12 {
-        first.cost = 9;
-        rules[1] = first;
-        other.count = 2;
-    }
-    other.sizes = sizes;
-    other.rules = rules;
+    other.rules[0] = first;
     other
 }
 
-// The outcome of writing a set, as a digit; the buffer has room for the short texts of these cases.
-fn print_write_outcome(rt: &impl Print, set: RuleSet) -> io::Result<()> {
-    let mut buffer = [0u8; 256];
-    let written = writer::write(set, &mut buffer);
-    print_byte(rt, written.outcome)
-}
-
-// The outcomes of writing the set of a text, changed in each way and at last as it is.
+// The outcomes of writing the set of a text, changed in each way and at last as it is, a digit each; the buffer has
+// room for the short texts of these cases.
 fn print_spoiled(rt: &impl Print, text: &[u8]) -> io::Result<()> {
-    let reading = reader::read(text);
+    let set = reader::read(text).set;
     for way in 0..14u8 {
-        print_write_outcome(rt, spoiled(reading.set, way))?;
+        let mut buffer = [0u8; 256];
+        let written = writer::write(spoiled(set, way), &mut buffer);
+        print!(rt; "{}", written.outcome)?;
     }
     Ok(())
 }
 
 // The line, cut at 120 bytes.
 fn print_line(rt: &impl Print, line: &[u8]) -> io::Result<()> {
-    if line.len() <= 120 {
-        return print(rt, line);
-    }
-    print(rt, &line[0..120])?;
-    print(rt, b"..")
+    let (front, dots) = shown(line);
+    rt.write_all(front)?;
+    rt.write_all(dots)
 }
 
 // The answer to a case, by its letter.
-fn print_answer(rt: &impl Print, verb: u8, text: &[u8]) -> io::Result<()> {
-    if verb == b'r' {
-        print_reading(rt, text)?;
+fn print_answer(rt: &(impl Print + AllocGlobal), verb: u8, text: &[u8]) -> io::Result<()> {
+    match verb {
+        b'r' => print_reading(rt, text),
+        b'c' => print_cuts(rt, text),
+        b'w' => print_rewritten(rt, text),
+        b'v' => print_set(rt, text),
+        b's' => print_spoiled(rt, text),
+        _ => Ok(()),
     }
-    if verb == b'c' {
-        print_cuts(rt, text)?;
-    }
-    if verb == b'w' {
-        print_rewritten(rt, text)?;
-    }
-    if verb == b'v' {
-        print_set(rt, text)?;
-    }
-    if verb == b's' {
-        print_spoiled(rt, text)?;
-    }
-    Ok(())
 }
 
 // One case, or a heading, on a line of the input.
-fn run(rt: &impl Print, line: &[u8]) -> io::Result<()> {
-    if line.len() < 2 {
+fn run(rt: &(impl Print + AllocGlobal), line: &[u8]) -> io::Result<()> {
+    let [verb, _, input @ ..] = line else {
         return Ok(());
-    }
-    let mut text = large_buffer();
-    let length = decode(&line[2..], &mut text);
+    };
     print_line(rt, line)?;
-    if line[0] != b'#' {
-        print(rt, b" -> ")?;
-        print_answer(rt, line[0], &text[0..length])?;
+    if *verb != b'#' {
+        let text = decoded(rt.alloc(), input)?;
+        print!(rt; " -> ")?;
+        print_answer(rt, *verb, &text)?;
     }
-    print(rt, b"\n")
+    print!(rt; "\n")
 }
 
 // The cases of all lines.
-fn run_lines(rt: &impl Print, input: &[u8]) -> io::Result<()> {
-    let mut from: usize = 0;
-    while from < input.len() {
-        let rest = &input[from..];
-        let size = find(b'\n', rest);
-        run(rt, &rest[0..size])?;
-        from += size + 1;
+fn run_lines(rt: &(impl Print + AllocGlobal), input: &[u8]) -> io::Result<()> {
+    for line in input.split(|b| *b == b'\n') {
+        run(rt, line)?;
     }
     Ok(())
 }

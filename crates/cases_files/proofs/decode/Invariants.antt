@@ -1,9 +1,0 @@
--- Each turn leaves one place fewer.
-use Rattle.std.proofs.Common.{◌≤◌, ◌-◌, length}
-use Rattle.cases_files.proofs.decode.Given as goal
-
-abbrev pub invariant-loop-count : goal.invariant-loop-count
-invariant-loop-count l = l.count ≤ length l.text
-
-abbrev pub decreases-loop-count : goal.decreases-loop-count
-decreases-loop-count l = length l.text - l.count
