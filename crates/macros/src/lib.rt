@@ -17,7 +17,7 @@ use touched::touched;
 use validity::is_valid;
 use wide_positions::wide_positions;
 
-// A refusal: zeros.
+// A refusal: zeros. Its number stays: `MacroAnswer` has it, and the record Meaning speaks of that.
 fn refused(outcome: u8) -> MacroAnswer
     ensures { result ≡ refused_macro outcome }
 {
