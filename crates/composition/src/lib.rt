@@ -3,7 +3,7 @@
 // are lent. Both vectors travel in one struct that is changed in place: document 02 allows one copy of the effect for
 // each rule, and none of the condition. The struct's mark `admitted` stays: the theorem ExtendedMeaning speaks of it.
 // The loops over places stay too: with an array's `map` the macros of `bench/run` took 1.7 to 4.9 times as long, and
-// with `from_fn` for the empty sequence those of topspin 4 to 6 in 100 longer.
+// with `from_fn` for the empty sequence those of topspin 5 to 7 in 100 longer.
 #![tactic(auto)]
 
 ghost use Rattle.std.specs.Prelude.{◌≡◌, true, not, cond, ◌+◌, ◌<◌, ltb, eqb};
