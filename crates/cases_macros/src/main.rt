@@ -9,120 +9,74 @@
 // The answers that `stdout` holds were written by hand from documents 01 and 02 and from the source documents.
 #![tactic(auto)]
 
-ghost use Rattle.std.specs.Prelude.{◌≤◌, length};
-
-use cases_common::{decode, find};
+use cases_common::{decode, shown, split_once};
 use macros_spec::{Macro, MacroAnswer, Touched, Vectors};
 use model_spec::{FIRST_VARIABLE, RuleSet};
 use moves::{cost_of, rule_at};
 use standard_input::{large_buffer, read_full};
+use std::alloc::{AllocError, Global};
 use std::io;
 
-fn print(rt: &impl Print, text: &[u8]) -> io::Result<()> {
-    rt.write_all(text)
+// The most moves that are read of a text: more than a sequence may have.
+const MOST_MOVES: usize = 64;
+
+// The number of a text, below 256: what is above is left out.
+fn byte_of(text: &[u8]) -> u8 {
+    text.iter().fold(
+        0,
+        |number: u8, digit| number.wrapping_mul(10).wrapping_add(*digit % 16),
+    )
 }
 
-fn print_number(rt: &impl Print, n: u64) -> io::Result<()> {
-    rt.print(n)
-}
-
-fn print_byte(rt: &impl Print, n: u8) -> io::Result<()> {
-    print_number(rt, n as u64)
-}
-
-// A number below 256 with one digit more; a comma leaves it as it is.
-fn with_byte(number: u8, byte: u8) -> u8 {
-    if byte == b',' {
-        return number;
+// The moves of a text, at most 64.
+fn moves_of(alloc: Global, text: &[u8]) -> Result<Vec<u8>, AllocError> {
+    if text.is_empty() {
+        return Ok(Vec::new(alloc));
     }
-    let value = 10 * (number as u16) + (byte % 16) as u16;
-    (value % 256) as u8
-}
-
-// Puts the numbers of a text into a buffer of zeros, as far as there is room; gives how many there are.
-fn parse(text: &[u8], numbers: &mut [u8]) -> usize
-    ensures { result ≤ length numbers.old }
-{
-    let mut last: usize = 0;
-    let mut i: usize = 0;
-    while last < numbers.len() {
-        if text.len() <= i {
-            return last + 1;
-        }
-        let byte = text[i];
-        numbers[last] = with_byte(numbers[last], byte);
-        if byte == b',' {
-            last += 1;
-        }
-        i += 1;
-    }
-    last
-}
-
-// Puts the moves of a text into a buffer of zeros; gives how many there are.
-fn parse_moves(text: &[u8], moves: &mut [u8]) -> usize
-    ensures { result ≤ length moves.old }
-{
-    if text.len() == 0 {
-        return 0;
-    }
-    parse(text, moves)
+    text.split(|b| *b == b',')
+        .take(MOST_MOVES)
+        .map(|number| byte_of(number))
+        .collect(alloc)
 }
 
 // Whether a list is zero from a place on.
 fn zeros_from(place: u8, list: &[u8]) -> bool {
-    for i in place as usize..list.len() {
-        if list[i] != 0 {
-            return false;
-        }
-    }
-    true
+    list.iter().skip(place as usize).all(|b| *b == 0)
 }
 
 // Whether both vectors of a macro are zero from a place on.
 fn blank_from(place: u8, found: Macro) -> bool {
-    let condition = found.condition;
-    let effect = found.effect;
-    if !zeros_from(place, &condition) {
-        return false;
-    }
-    zeros_from(place, &effect)
+    zeros_from(place, &found.condition) && zeros_from(place, &found.effect)
 }
 
 // An entry, in the notation of a rule file.
 fn print_entry(rt: &impl Print, entry: u8) -> io::Result<()> {
     if entry < FIRST_VARIABLE {
-        return print_byte(rt, entry);
+        return print!(rt; "{entry}");
     }
-    print(rt, b"x")?;
-    print_byte(rt, entry - 15)
+    print!(rt; "x{}", entry - 15)
 }
 
 // The entries of the positions, with commas between.
 fn print_entries(rt: &impl Print, positions: u8, entries: &[u8]) -> io::Result<()> {
-    for i in 0..entries.len() {
-        if i < positions as usize {
-            if 0 < i {
-                print(rt, b",")?;
-            }
-            print_entry(rt, entries[i])?;
+    for (i, entry) in entries.iter().enumerate().take(positions as usize) {
+        if i != 0 {
+            print!(rt; ",")?;
         }
+        print_entry(rt, *entry)?;
     }
     Ok(())
 }
 
 // A macro, and whether something stands in its unused places.
 fn print_lines(rt: &impl Print, positions: u8, found: Macro) -> io::Result<()> {
-    let condition = found.condition;
-    let effect = found.effect;
-    print(rt, b"  if=")?;
-    print_entries(rt, positions, &condition)?;
-    print(rt, b"  then=")?;
-    print_entries(rt, positions, &effect)?;
-    print(rt, b"  cost=")?;
-    print_number(rt, found.cost as u64)?;
+    print!(rt; "  if=")?;
+    print_entries(rt, positions, &found.condition)?;
+    print!(rt; "  then=")?;
+    print_entries(rt, positions, &found.effect)?;
+    print!(rt; "  cost={}", found.cost)?;
     if !blank_from(positions, found) {
-        print(rt, b"  unused places not 0")?;
+        print!(rt; "  unused places not 0")?;
     }
     Ok(())
 }
@@ -130,54 +84,44 @@ fn print_lines(rt: &impl Print, positions: u8, found: Macro) -> io::Result<()> {
 // The positions of a set, in rising order, with commas between.
 fn print_positions(rt: &impl Print, set: u16) -> io::Result<()> {
     let mut rest = set;
-    for i in 0..16u8 {
+    for position in 1..17u8 {
         if rest % 2 == 1 {
-            print_byte(rt, i + 1)?;
+            print!(rt; "{position}")?;
             if 1 < rest {
-                print(rt, b",")?;
+                print!(rt; ",")?;
             }
         }
-        rest = rest / 2;
+        rest /= 2;
     }
     Ok(())
 }
 
 // The positions that are read and written.
 fn print_touched(rt: &impl Print, found: Touched) -> io::Result<()> {
-    print(rt, b"  reads=")?;
+    print!(rt; "  reads=")?;
     print_positions(rt, found.reads)?;
-    print(rt, b"  writes=")?;
+    print!(rt; "  writes=")?;
     print_positions(rt, found.writes)
 }
 
 // Whether a macro and its two sets are zeros throughout.
 fn is_blank(found: Macro, sets: Touched) -> bool {
-    if found.cost != 0 {
-        return false;
-    }
-    if sets.reads != 0 {
-        return false;
-    }
-    if sets.writes != 0 {
-        return false;
-    }
-    blank_from(0, found)
+    found.cost == 0 && sets.reads == 0 && sets.writes == 0 && blank_from(0, found)
 }
 
 // Whether a refusal is zeros throughout.
 fn print_blank(rt: &impl Print, answer: MacroAnswer) -> io::Result<()> {
     if is_blank(answer.result, answer.touched) {
-        return print(rt, b" zeros");
+        return print!(rt; " zeros");
     }
-    print(rt, b" not zeros")
+    print!(rt; " not zeros")
 }
 
 // The macro of the moves of a text.
-fn print_macro(rt: &impl Print, set: RuleSet, text: &[u8]) -> io::Result<()> {
-    let mut moves = [0u8; 64];
-    let count = parse_moves(text, &mut moves);
-    let answer = macros::macro_of(set, &moves[0..count]);
-    print_byte(rt, answer.outcome)?;
+fn print_macro(rt: &(impl Print + AllocGlobal), set: RuleSet, text: &[u8]) -> io::Result<()> {
+    let moves = moves_of(rt.alloc(), text)?;
+    let answer = macros::macro_of(set, &moves);
+    print!(rt; "{}", answer.outcome)?;
     if answer.outcome == 0 {
         print_lines(rt, set.positions, answer.result)?;
         return print_touched(rt, answer.touched);
@@ -187,118 +131,102 @@ fn print_macro(rt: &impl Print, set: RuleSet, text: &[u8]) -> io::Result<()> {
 
 // The vectors of a sequence.
 fn composed(set: RuleSet, moves: &[u8]) -> Vectors {
-    let mut sequence = composition::empty(set);
-    for i in 0..moves.len() {
-        let rule = rule_at(set, moves[i]);
-        sequence = composition::extended(sequence, rule);
-    }
-    sequence
+    moves
+        .iter()
+        .fold(composition::empty(set), |sequence, number| {
+            composition::extended(sequence, rule_at(set, *number))
+        })
 }
 
-// A cost in 16 bits. At most 64 moves cost at most 16,320.
-fn in_16_bits(cost: u32) -> u16 {
-    if cost < 65536 { cost as u16 } else { 65535 }
-}
-
-// Whether a sequence is redundant with another.
+// Whether a sequence is redundant with another. Its cost fits: at most 64 moves cost at most 16,320.
 fn print_redundancy(rt: &impl Print, set: RuleSet, moves: &[u8], witness: &[u8]) -> io::Result<()> {
     let sequence = composed(set, moves);
-    let cost = in_16_bits(cost_of(set, moves));
+    let cost = cost_of(set, moves).min(65535) as u16;
     if redundancy::is_redundant(set, sequence, cost, witness) {
-        return print(rt, b"yes");
+        return print!(rt; "yes");
     }
-    print(rt, b"no")
+    print!(rt; "no")
 }
 
 // The same of the two sequences of a text, with ` by ` between.
-fn print_compared(rt: &impl Print, set: RuleSet, text: &[u8]) -> io::Result<()> {
-    let mut moves = [0u8; 64];
-    let mut witness = [0u8; 64];
-    let size = find(b' ', text);
-    let rest = &text[size..];
-    if rest.len() < 4 {
+fn print_compared(rt: &(impl Print + AllocGlobal), set: RuleSet, text: &[u8]) -> io::Result<()> {
+    let (moves, rest) = split_once(b' ', text);
+    let [_, _, _, witness @ ..] = rest else {
         return Ok(());
-    }
-    let count = parse_moves(&text[0..size], &mut moves);
-    let other = parse_moves(&rest[4..], &mut witness);
-    print_redundancy(rt, set, &moves[0..count], &witness[0..other])
+    };
+    let moves = moves_of(rt.alloc(), moves)?;
+    let witness = moves_of(rt.alloc(), witness)?;
+    print_redundancy(rt, set, &moves, &witness)
 }
 
 // The set of a text, with its outcome printed.
 fn read_set(rt: &impl Print, text: &[u8]) -> io::Result<RuleSet> {
     let mut file = large_buffer();
     let size = decode(text, &mut file);
-    let reading = reader::read(&file[0..size]);
-    print_byte(rt, reading.outcome)?;
+    let reading = reader::read(&file[..size]);
+    print!(rt; "{}", reading.outcome)?;
     Ok(reading.set)
 }
 
 // The set with two of its numbers changed, and whether it is valid printed.
 fn changed_set(rt: &impl Print, set: RuleSet, text: &[u8]) -> io::Result<RuleSet> {
-    let mut numbers = [0u8; 2];
+    let (positions, rest) = split_once(b',', text);
+    let (count, _) = split_once(b',', rest);
     let mut other = set;
-    parse(text, &mut numbers);
-    other.positions = numbers[0];
-    other.count = numbers[1];
+    other.positions = byte_of(positions);
+    other.count = byte_of(count);
     if validity::is_valid(other) {
-        print(rt, b"valid")?;
+        print!(rt; "valid")?;
     } else {
-        print(rt, b"not valid")?;
+        print!(rt; "not valid")?;
     }
     Ok(other)
 }
 
 // The answer to a case, by its letter; gives the set of the next case.
-fn answer(rt: &impl Print, set: RuleSet, verb: u8, text: &[u8]) -> io::Result<RuleSet> {
-    if verb == b'f' {
-        return read_set(rt, text);
-    }
-    if verb == b's' {
-        return changed_set(rt, set, text);
-    }
-    if verb == b'm' {
-        print_macro(rt, set, text)?;
-    }
-    if verb == b'w' {
-        print_compared(rt, set, text)?;
+fn answer(
+    rt: &(impl Print + AllocGlobal),
+    set: RuleSet,
+    verb: u8,
+    text: &[u8],
+) -> io::Result<RuleSet> {
+    match verb {
+        b'f' => return read_set(rt, text),
+        b's' => return changed_set(rt, set, text),
+        b'm' => print_macro(rt, set, text)?,
+        b'w' => print_compared(rt, set, text)?,
+        _ => {}
     }
     Ok(set)
 }
 
 // The line, cut at 120 bytes.
 fn print_line(rt: &impl Print, line: &[u8]) -> io::Result<()> {
-    if line.len() <= 120 {
-        return print(rt, line);
-    }
-    print(rt, &line[0..120])?;
-    print(rt, b"..")
+    let (front, dots) = shown(line);
+    rt.write_all(front)?;
+    rt.write_all(dots)
 }
 
 // One case, or a heading, on a line of the input; gives the set of the next line.
-fn run(rt: &impl Print, set: RuleSet, line: &[u8]) -> io::Result<RuleSet> {
-    if line.len() < 2 {
+fn run(rt: &(impl Print + AllocGlobal), set: RuleSet, line: &[u8]) -> io::Result<RuleSet> {
+    let [verb, _, text @ ..] = line else {
         return Ok(set);
-    }
+    };
     let mut next = set;
     print_line(rt, line)?;
-    if line[0] != b'#' {
-        print(rt, b": ")?;
-        next = answer(rt, set, line[0], &line[2..])?;
+    if *verb != b'#' {
+        print!(rt; ": ")?;
+        next = answer(rt, set, *verb, text)?;
     }
-    print(rt, b"\n")?;
+    print!(rt; "\n")?;
     Ok(next)
 }
 
 // The cases of all lines; the set of the first is the empty one.
-fn run_lines(rt: &impl Print, input: &[u8]) -> io::Result<()> {
-    let empty = reader::read(b"");
-    let mut set = empty.set;
-    let mut from: usize = 0;
-    while from < input.len() {
-        let rest = &input[from..];
-        let size = find(b'\n', rest);
-        set = run(rt, set, &rest[0..size])?;
-        from += size + 1;
+fn run_lines(rt: &(impl Print + AllocGlobal), input: &[u8]) -> io::Result<()> {
+    let mut set = reader::read(b"").set;
+    for line in input.split(|b| *b == b'\n') {
+        set = run(rt, set, line)?;
     }
     Ok(())
 }
