@@ -167,7 +167,7 @@ fn leading_number(text: &[u8]) -> (u8, Option<u8>, &[u8]) {
     }
 }
 
-// The numbers of a line, at most 64, and the text behind them.
+// The numbers of a line, at most 32, and the text behind them.
 fn leading_line(alloc: Global, text: &[u8]) -> Result<(Vec<u8>, &[u8]), AllocError> {
     let mut numbers = Vec::new(alloc);
     let mut rest = text;
