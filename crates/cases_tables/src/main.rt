@@ -110,18 +110,11 @@ fn marks_of(table: &[u8]) -> usize
         .count()
 }
 
-// What the entry at an index adds to the sum: nothing, if it is no mark.
-fn weight(index: usize, entry: usize) -> usize {
-    if entry == KEPT {
-        return 0;
-    }
-    index.saturating_mul(entry.saturating_add(1))
-}
-
 // The sum over the marks of the index times one more than the witness.
 fn sum_of(table: &[u8]) -> usize {
-    (0..table.len() / 2).fold(0, |sum: usize, i| {
-        sum.saturating_add(weight(i, entry_at(table, i)))
+    (0..table.len() / 2).fold(0, |sum: usize, i| match entry_at(table, i) {
+        KEPT => sum,
+        witness => sum.saturating_add(i.saturating_mul(witness.saturating_add(1))),
     })
 }
 
