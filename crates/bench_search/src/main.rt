@@ -8,7 +8,7 @@
 ghost use Rattle.std.specs.Prelude.{◌≤◌};
 
 use model_spec::{MAX_RULES, MOVE_LIMIT, PLACE_COUNT, RuleSet};
-use search_spec::{Answer, NO_MOVE};
+use search_spec::{Answer, NO_MOVE, Query};
 use standard_input::{large_buffer, read_full};
 use std::alloc::{AllocError, Global};
 use std::io;
@@ -103,17 +103,16 @@ fn run(rt: &impl Print, set: RuleSet, bounds: Bounds, start: &[u8], goal: &[u8])
     let table = &mut space[0..2 * entries];
     let built = builder::build_table(set, bounds.reach, table);
     println!(rt; "built={}", built.outcome)?;
-    let answer = search::search(
-        set,
-        bounds.reach,
+    let query = Query {
+        reach: bounds.reach,
         table,
         start,
         goal,
-        bounds.max_moves,
-        bounds.max_cost,
-        bounds.step_limit,
-        &mut plan,
-    );
+        max_moves: bounds.max_moves,
+        max_cost: bounds.max_cost,
+        step_limit: bounds.step_limit,
+    };
+    let answer = search::search(set, query, &mut plan);
     print_answer(rt, answer)?;
     print_moves(rt, &plan)
 }

@@ -59,6 +59,7 @@ fn write_entries(set: RuleSet, reach: usize, table: &mut [u8]) -> Touched
     for i in 0..table.len() / 2 {
         let own = profile_at(set, i);
         let entry = entry_for(set, i, own);
+        // one byte at a time: the law `entered_more` speaks of these two writes
         table[2 * i] = (entry % 256) as u8;
         table[2 * i + 1] = (entry / 256) as u8;
         if entry != KEPT {

@@ -49,7 +49,7 @@ use cases_buffers::put_entry;
 use cases_common::{decode, number_of, shown, split_once, up_to};
 use explain_spec::Explanation;
 use model_spec::RuleSet;
-use search_spec::{Answer, NO_MOVE, Tally};
+use search_spec::{Answer, NO_MOVE, Query, Tally};
 use standard_input::{large_buffer, read_full};
 use std::alloc::{AllocError, Global};
 use std::io;
@@ -72,7 +72,7 @@ struct Standing {
 
 // What `q`, `k` and `x` ask. The last text is the room, or the proposal.
 #[derive(Drop)]
-struct Query<'a> {
+struct Asked<'a> {
     reach: usize,
     start: Vec<u8>,
     goal: Vec<u8>,
@@ -93,15 +93,15 @@ fn list_of(alloc: Global, text: &[u8]) -> Result<Vec<u8>, AllocError> {
         .collect(alloc)
 }
 
-// The query of a text.
-fn query_of(alloc: Global, text: &[u8]) -> Result<Query<'_>, AllocError> {
+// What a text asks.
+fn asked_of(alloc: Global, text: &[u8]) -> Result<Asked<'_>, AllocError> {
     let (reach, rest) = split_once(b' ', text);
     let (start, rest) = split_once(b' ', rest);
     let (goal, rest) = split_once(b' ', rest);
     let (moves, rest) = split_once(b' ', rest);
     let (cost, rest) = split_once(b' ', rest);
     let (limit, last) = split_once(b' ', rest);
-    Ok(Query {
+    Ok(Asked {
         reach: number_of(reach),
         start: list_of(alloc, start)?,
         goal: list_of(alloc, goal)?,
@@ -110,6 +110,19 @@ fn query_of(alloc: Global, text: &[u8]) -> Result<Query<'_>, AllocError> {
         step_limit: number_of(limit).min(4294967295) as u32,
         last,
     })
+}
+
+// The query that is asked, over a table.
+fn query_of<'a>(asked: &'a Asked<'_>, table: &'a [u8]) -> Query<'a> {
+    Query {
+        reach: asked.reach,
+        table,
+        start: &asked.start,
+        goal: &asked.goal,
+        max_moves: asked.max_moves,
+        max_cost: asked.max_cost,
+        step_limit: asked.step_limit,
+    }
 }
 
 // The tally of a comma list.
@@ -200,18 +213,12 @@ fn print_answer(rt: &impl Print, answer: Answer, plan: &[u8]) -> io::Result<()> 
 fn print_search(
     rt: &(impl Print + AllocGlobal),
     standing: &Standing,
-    query: &Query,
+    asked: &Asked<'_>,
 ) -> io::Result<()> {
-    let mut plan = vec![in rt.alloc(); 170; number_of(query.last).min(PLAN_SIZE)]?;
+    let mut plan = vec![in rt.alloc(); 170; number_of(asked.last).min(PLAN_SIZE)]?;
     let answer = search::search(
         standing.set,
-        query.reach,
-        &standing.table,
-        &query.start,
-        &query.goal,
-        query.max_moves,
-        query.max_cost,
-        query.step_limit,
+        query_of(asked, &standing.table),
         &mut plan,
     );
     print_answer(rt, answer, &plan)
@@ -224,18 +231,12 @@ fn print_tally(rt: &impl Print, tally: Tally) -> io::Result<()> {
 }
 
 // The answer to `k`: a search that updates the tally, with the plan buffer as it is.
-fn print_tallied_search(rt: &impl Print, standing: &mut Standing, query: &Query) -> io::Result<()> {
-    let room = number_of(query.last).min(standing.plan.len());
+fn print_tallied_search(rt: &impl Print, standing: &mut Standing, asked: &Asked<'_>) -> io::Result<()> {
+    let room = number_of(asked.last).min(standing.plan.len());
     let plan = &mut standing.plan[..room];
     let answer = tallied_search::search_with_tally(
         standing.set,
-        query.reach,
-        &standing.table,
-        &query.start,
-        &query.goal,
-        query.max_moves,
-        query.max_cost,
-        query.step_limit,
+        query_of(asked, &standing.table),
         plan,
         &mut standing.tally,
     );
@@ -267,18 +268,12 @@ fn print_segment(rt: &impl Print, answer: Explanation) -> io::Result<()> {
 fn print_explanation(
     rt: &(impl Print + AllocGlobal),
     standing: &Standing,
-    query: &Query,
+    asked: &Asked<'_>,
 ) -> io::Result<()> {
-    let proposal = list_of(rt.alloc(), query.last)?;
+    let proposal = list_of(rt.alloc(), asked.last)?;
     let answer = explain::explain(
         standing.set,
-        query.reach,
-        &standing.table,
-        &query.start,
-        &query.goal,
-        query.max_moves,
-        query.max_cost,
-        query.step_limit,
+        query_of(asked, &standing.table),
         &proposal,
     );
     print_reason(rt, answer)?;
@@ -347,9 +342,9 @@ fn answer(
         }
         b'u' => print_updates(rt, standing, text)?,
         b'p' => print_part(rt, &standing.plan, text)?,
-        b'q' => print_search(rt, standing, &query_of(rt.alloc(), text)?)?,
-        b'k' => print_tallied_search(rt, standing, &query_of(rt.alloc(), text)?)?,
-        b'x' => print_explanation(rt, standing, &query_of(rt.alloc(), text)?)?,
+        b'q' => print_search(rt, standing, &asked_of(rt.alloc(), text)?)?,
+        b'k' => print_tallied_search(rt, standing, &asked_of(rt.alloc(), text)?)?,
+        b'x' => print_explanation(rt, standing, &asked_of(rt.alloc(), text)?)?,
         _ => {}
     }
     Ok(())

@@ -22,6 +22,7 @@ pub fn sequence_at(count: u8, index: usize) -> ShortSequence
     let mut rules = [0; 3];
     let mut start = 3;
     let mut rest = index;
+    // a `for` over the places is no plainer: it would need a return where nothing is left
     while 0 < start && 0 < rest {
         let before = rest - 1;
         start -= 1;
