@@ -24,7 +24,9 @@ use Rattle.tables_spec.proofs.TableLaws.{accepted_iff}
 use Rattle.tables_spec.proofs.AnswerLaws.{build_ready_iff, build_meaning}
 use Rattle.search_spec.specs.Query.{Query, start_fits, goal_fits, StartFits, GoalFits}
 use Rattle.search_spec.specs.Looked.{cheapest_looked, LookedPlan}
-use Rattle.search_spec.specs.Searched.{query_causes, search_causes, is_answer, searched_with, searched, NotRefused, Limited, PlanAtLimit, StartPassed, GoalPassed, MovesPassed, RoomPassed, WellPosed, OverLimit, SearchMeaning}
+use Rattle.search_spec.specs.Searched.{query_causes, search_causes, is_answer, searched_with, searched, NotRefused}
+use Rattle.search_spec.specs.Searched.{Limited, PlanAtLimit, StartPassed, GoalPassed, MovesPassed, RoomPassed}
+use Rattle.search_spec.specs.Searched.{WellPosed, OverLimit, SearchMeaning}
 use Rattle.search_spec.proofs.VisitedLaws.{start-fits_iff, goal-fits_iff}
 use Rattle.search_spec.proofs.Demand.{query-numbers, demand_3}
 use Rattle.search_spec.proofs.LookedLaws.{looked_meaning, some-looked_iff}

@@ -15,8 +15,8 @@ returns-then-goal-set c =
     all_from_yields_List (λ (q : ℕ × ℕ). eqb q.0 any_value || ltb q.0 q.1) c.all.new.self _ _ c.all.ensures.ran
     (YieldsList-from_zip (YieldsList-from_slice goal cc) (YieldsList-from_slice sizes cc))
     (λ x b q k. search (rules, tests))
-    ∙ all_fit (λ (byte size : ℕ). eqb byte any_value || ltb byte size) c.args.set.positions goal sizes c.if-goal-set.true
-    (omega (arith, c.requires))
+    ∙ all_fit (λ (byte size : ℕ). eqb byte any_value || ltb byte size) c.args.set.positions goal sizes
+    c.if-goal-set.true (omega (arith, c.requires))
 
 pub returns-else-goal-set : goal.returns-else-goal-set
 unfolding goal_fits

@@ -78,5 +78,5 @@ returns c =
     (c.outcome_of-outcome.ensures ∙ ap (outcome_of progress.exceeded) c.is_some.ensures) c.floor_shown-floor.ensures
     c.fill.new.self (c.fill.ensures.after (λ y e. e)) in
     answers set query room _ _
-    (left_with c.outcome_of-outcome.result c.in-Some.best progress.steps c.floor_shown-floor.result c.fill.new.self) refl
-    (ap (λ l. l ++ drop c.in-Some.best.length c.fill.new.self) c.copy_from_slice.ensures.after) left
+    (left_with c.outcome_of-outcome.result c.in-Some.best progress.steps c.floor_shown-floor.result c.fill.new.self)
+    refl (ap (λ l. l ++ drop c.in-Some.best.length c.fill.new.self) c.copy_from_slice.ensures.after) left

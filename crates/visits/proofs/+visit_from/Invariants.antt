@@ -14,8 +14,8 @@ decreases-visit_from l = l.left
 abbrev pub invariant-loop-k : goal.invariant-loop-k
 invariant-loop-k l =
     let lent = l.task in
-    (rest_from lent.conditions.now lent.effects.now lent.costs.now lent.blocked.now lent.goal.now lent.limits (l.left - 1)
-    (take l.depth l.plan) l.state l.k l.carried
-    ≡ rest_from lent.conditions.now lent.effects.now lent.costs.now lent.blocked.now lent.goal.now lent.limits (l.left - 1)
-    (take l.depth l.plan) l.state 0 l.initial.carried)
+    (rest_from lent.conditions.now lent.effects.now lent.costs.now lent.blocked.now lent.goal.now lent.limits
+    (l.left - 1) (take l.depth l.plan) l.state l.k l.carried
+    ≡ rest_from lent.conditions.now lent.effects.now lent.costs.now lent.blocked.now lent.goal.now lent.limits
+    (l.left - 1) (take l.depth l.plan) l.state 0 l.initial.carried)
     × ((number : ℕ) → set l.longer l.depth number ≡ padded 32 no_move (take l.depth l.plan ++ (number ∷ [])))
