@@ -216,11 +216,7 @@ fn print_search(
     asked: &Asked<'_>,
 ) -> io::Result<()> {
     let mut plan = vec![in rt.alloc(); 170; number_of(asked.last).min(PLAN_SIZE)]?;
-    let answer = search::search(
-        standing.set,
-        query_of(asked, &standing.table),
-        &mut plan,
-    );
+    let answer = search::search(standing.set, query_of(asked, &standing.table), &mut plan);
     print_answer(rt, answer, &plan)
 }
 
@@ -231,7 +227,11 @@ fn print_tally(rt: &impl Print, tally: Tally) -> io::Result<()> {
 }
 
 // The answer to `k`: a search that updates the tally, with the plan buffer as it is.
-fn print_tallied_search(rt: &impl Print, standing: &mut Standing, asked: &Asked<'_>) -> io::Result<()> {
+fn print_tallied_search(
+    rt: &impl Print,
+    standing: &mut Standing,
+    asked: &Asked<'_>,
+) -> io::Result<()> {
     let room = number_of(asked.last).min(standing.plan.len());
     let plan = &mut standing.plan[..room];
     let answer = tallied_search::search_with_tally(
@@ -271,11 +271,7 @@ fn print_explanation(
     asked: &Asked<'_>,
 ) -> io::Result<()> {
     let proposal = list_of(rt.alloc(), asked.last)?;
-    let answer = explain::explain(
-        standing.set,
-        query_of(asked, &standing.table),
-        &proposal,
-    );
+    let answer = explain::explain(standing.set, query_of(asked, &standing.table), &proposal);
     print_reason(rt, answer)?;
     print_segment(rt, answer)
 }

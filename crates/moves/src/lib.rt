@@ -8,7 +8,7 @@ ghost use Rattle.model_spec.specs.Rules.{rule_at, sequence_cost};
 
 use model_spec::{MAX_RULES, Rule, RuleSet};
 
-// One more than a `u16` holds: what a dearer sequence is said to cost.
+// One more than a `u16` holds: what a dearer sequence is said to cost. No `Option`: the contract of `cost_of` says so.
 const MORE_THAN_U16: u32 = 65536;
 
 // Whether some move is no number from 1 to `count`.

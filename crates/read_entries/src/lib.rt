@@ -48,7 +48,7 @@ fn entry<'a>(
     constant(text, sizes.get(i).copied().unwrap_or(0), ending)
 }
 
-// The entries with another at place i, as they were where i is no place.
+// The entries with another at place i, as they were where i is no place: `set` of the contract says both.
 fn with_entry(mut entries: [u8; PLACE_COUNT], i: usize, value: u8) -> [u8; PLACE_COUNT]
     ensures { result ≡ set entries i value }
 {

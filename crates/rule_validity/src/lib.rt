@@ -7,7 +7,7 @@ ghost use Rattle.model_spec.specs.Validity.{condition_valid, effect_valid, rule_
 use model_spec::{PLACE_COUNT, Rule};
 use placement::{condition_placed, effect_placed, entry_limited};
 
-// Whether every entry of a condition is valid.
+// Whether every entry of a condition is valid. One function with the test as a parameter would be longer than the two.
 fn condition_valid(positions: u8, sizes: &[u8; PLACE_COUNT], condition: &[u8; PLACE_COUNT]) -> bool
     ensures { result ≡ condition_valid positions sizes.now condition.now }
 {

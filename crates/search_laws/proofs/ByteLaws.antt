@@ -1,15 +1,14 @@
--- Laws of two lists that are tested byte by byte, side by side: a start or a goal and the sizes, a condition and a
--- state, a goal and a state.
+-- Laws of two lists that are tested byte by byte, side by side: a start or a goal and the sizes, a goal and a state.
 -- Assumes nothing.
 use Prim.Native.Nat.{ℕ, zero, suc, ◌≤◌}
 use mathlib.Core.Path.{◌≡◌, refl, sym, ap, ◌∙◌}
 use mathlib.Core.Bool.{Bool, ◌&&◌, ◌||◌}
-use mathlib.Core.List.{List, [], ◌∷◌, map}
+use mathlib.Core.List.{List, [], ◌∷◌}
 use native.Mathlib.Omega.{arith}
 use lib.Dec.{eqb}
 use lib.ListN.{length, get_or, take, length-take}
 use Rattle.std.specs.List.{list_all, zip}
-use Rattle.theory_spec.specs.Lists.{every, numbers_from, same}
+use Rattle.theory_spec.specs.Lists.{every, numbers_from}
 use Rattle.model_spec.proofs.LoopLaws.{sized}
 use Rattle.search_spec.specs.Query.{any_value, meets_goal}
 
@@ -36,14 +35,6 @@ module _ (test : ℕ → ℕ → Bool) where
       each_fits bytes sizes (omega arith)
       ∙ ap (λ k. every (λ i. test (get_or bytes i 0) (get_or sizes i 0)) (numbers_from 0 k)) long
       ∙ sized bytes n _ long
-
--- two lists, place by place: the first, mapped by f, and the second
-pub same_zip : (f : ℕ → ℕ) (x y : List ℕ) → length x ≡ length y
-    → list_all (λ (q : ℕ × ℕ). eqb (f q.0) q.1) (zip x y) ≡ same (map f x) y
-same_zip f [] [] h = refl
-same_zip f [] (b ∷ y) h = absurd (omega arith)
-same_zip f (a ∷ x) [] h = absurd (omega arith)
-same_zip f (a ∷ x) (b ∷ y) h = ap (λ (r : Bool). eqb (f a) b && r) (same_zip f x y (omega arith))
 
 -- a goal of more than sixteen bytes is read as far as a state of sixteen goes
 zip_front : (x y : List ℕ) (n : ℕ) → length y ≤ n → zip x y ≡ zip (take n x) y

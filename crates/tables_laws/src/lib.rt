@@ -3,8 +3,8 @@
 
 use macros_spec::Vectors;
 
-// A sequence of at most three rules, by their numbers: those of the array from `start` on. A rule of the project: a crate
-// of definitions has no function, so no method gives the slice.
+// A sequence of at most three rules, by their numbers: those of the array from `start` on. No method gives the slice:
+// by a rule of the project a crate of definitions has no function.
 #[derive(Clone, Copy)]
 pub struct ShortSequence {
     pub start: usize,

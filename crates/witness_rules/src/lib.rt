@@ -26,7 +26,8 @@ pub fn goes_on(rule: Rule, entries: &[u8; PLACE_COUNT], left: u16) -> bool
     rule.cost as u16 <= left && runs(&rule.condition, entries)
 }
 
-// Whether an effect leads from these entries to the target. It ends at the first place that differs.
+// Whether an effect leads from these entries to the target. It ends at the first place that differs. A `for` over the
+// places: three arrays are read side by side, and a chain of two `zip`s is no plainer.
 fn leads_to(
     effect: &[u8; PLACE_COUNT],
     entries: &[u8; PLACE_COUNT],

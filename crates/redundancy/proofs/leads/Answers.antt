@@ -1,24 +1,12 @@
 -- `redundancy::leads` meets its contract. The invariant: whether the moves left lead from the entries to the effect
 -- decides the whole.
-use mathlib.Core.Path.{◌≡◌, refl, sym, ap, ◌∙◌}
-use mathlib.Core.Bool.{◌&&◌}
-use mathlib.Core.List.{List, [], ◌∷◌}
-use Prim.Native.Nat.{ℕ}
+use mathlib.Core.Path.{refl, sym, ◌∙◌}
 use native.Mathlib.Omega.{arith}
-use lib.Dec.{eqb}
-use lib.Pointwise.{pointwise}
-use Rattle.theory_spec.specs.Lists.{same}
 use Rattle.model_spec.specs.Rules.{rule_at}
+use Rattle.model_spec.proofs.ChainLaws.{same_is}
 use Rattle.model_spec.proofs.MoveLaws.{numbered_at}
 use Rattle.macros_spec.proofs.MoveLoopLaws.{leads_go, leads_stop, leads-end}
 use Rattle.redundancy.proofs.leads.Goals as goal
-
--- what `==` of two arrays tells
-same_is : (x y : List ℕ) → pointwise eqb x y ≡ same x y
-same_is [] [] = refl
-same_is [] (b ∷ y) = refl
-same_is (a ∷ x) [] = refl
-same_is (a ∷ x) (b ∷ y) = ap (λ r. eqb a b && r) (same_is x y)
 
 pub overflow_sub-rule : goal.overflow_sub-rule
 overflow_sub-rule c = omega (arith, numbered_at 31 c.args.moves.now c.loop-number.number-index c.requires (omega arith))

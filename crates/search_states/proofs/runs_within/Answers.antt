@@ -6,7 +6,7 @@ use Rattle.std.proofs.lemmas.Iterator.{YieldsList-from_slice, YieldsList-from_zi
 use Rattle.std.proofs.lemmas.Iterator.Search.{all_from_yields_List}
 use Rattle.model_spec.specs.States.{value_of, values_of}
 use Rattle.search_laws.specs.How.Visits.{meets_within}
-use Rattle.search_laws.proofs.ByteLaws.{same_zip}
+use Rattle.model_spec.proofs.ChainLaws.{same_zip}
 use Rattle.search_states.proofs.runs_within.Goals as goal
 
 pub returns : goal.returns

@@ -1,16 +1,16 @@
 -- `witnesses::smallest_witness` meets its contract. The invariant: no sequence of fewer than `more` rules is a witness.
-use mathlib.Core.Path.{◌≡◌, refl, sym, ap, ◌∙◌}
-use mathlib.Core.Bool.{Bool, true, false, ◌&&◌}
-use mathlib.Core.List.{List, [], ◌∷◌}
+use mathlib.Core.Path.{◌≡◌, sym, ap, ◌∙◌}
+use mathlib.Core.Bool.{Bool, true, false}
+use mathlib.Core.List.{[]}
 use lib.Pointwise.{pointwise}
 use Rattle.std.specs.Prelude.{Option, Some, None, nat_eq}
-use Rattle.theory_spec.specs.Lists.{same}
 use mathlib.Core.Option as Math
 use mathlib.Core.Option.{some, none}
 use Prim.Native.Nat.{ℕ, ◌-◌, ◌≤◌}
 use native.Mathlib.Omega.{arith}
 use borrow.Author.Tests.{le-leb}
 use Rattle.theory_spec.specs.Sequences.{Sequence, sequences}
+use Rattle.model_spec.proofs.ChainLaws.{same_is}
 use Rattle.model_spec.specs.Rules.{sequence_cost}
 use Rattle.model_spec.specs.declared.RuleSet.{RuleSet}
 use Rattle.macros_spec.specs.Composition.{Lines, lines_of}
@@ -24,13 +24,6 @@ use Rattle.tables_laws.proofs.WitnessLaws.{empty-found, empty_next, lengths_next
 use Rattle.witnesses.proofs.smallest_witness.Goals as goal
 use Rattle.witnesses.proofs.smallest_witness.Goals.{then-not-sequence-via-then-not-sequence}
 use Rattle.witnesses.proofs.smallest_witness.Goals.{then-not-sequence-via-else-not-sequence+then-eq}
-
--- arrays are compared entry by entry
-compared : (a b : List ℕ) → pointwise nat_eq a b ≡ same a b
-compared [] [] = refl
-compared [] (y ∷ b) = refl
-compared (x ∷ a) [] = refl
-compared (x ∷ a) (y ∷ b) = ap (λ c. nat_eq x y && c) (compared a b)
 
 module _ (set : RuleSet) (v : Vectors) (cost : ℕ) (few : set.count ≤ 31) where
   -- what is found in the set is what is asked for
@@ -60,7 +53,7 @@ module _ (set : RuleSet) (v : Vectors) (cost : ℕ) (few : set.count ≤ 31) whe
   -- the empty sequence serves exactly where the two are the same
   empty_serves : (r b : Bool) → r ≡ pointwise nat_eq v.condition v.effect → r ≡ b → aim [] ≡ b
   empty_serves r b e t =
-      serves-last set v.condition cost v.effect ∙ sym (compared v.condition v.effect) ∙ sym e ∙ t
+      serves-last set v.condition cost v.effect ∙ sym (same_is v.condition v.effect) ∙ sym e ∙ t
 
 pub returns-then-set-gt-MAX_RULES : goal.returns-then-set-gt-MAX_RULES
 returns-then-set-gt-MAX_RULES c =
