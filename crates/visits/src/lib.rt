@@ -1,6 +1,6 @@
 // The visits (document 01: the walk): a query is judged, and if it is not refused, its sequences are visited by a
-// function that calls itself for each extension of a sequence. Arrays are lent; limits, steps and best plan pass
-// through by value.
+// function that calls itself for each extension of a sequence. What stays the same all through is lent; steps and best
+// plan pass through by value.
 #![tactic(auto)]
 
 ghost use Rattle.std.specs.Prelude.{◌≡◌, IfOk, take};
