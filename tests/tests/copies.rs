@@ -34,7 +34,8 @@ fn listed(source: &str) -> Vec<(&str, &str)> {
         let function = reached[i];
         for line in bodies.get(function).unwrap_or_else(|| panic!("`{function}` is not in the source")) {
             lines.extend(is_listed(line).then_some((function, *line)));
-            for called in line.match_indices('(').map(|(end, _)| last_name(&line[..end])) {
+            for callee in line.match_indices('(').map(|(end, _)| &line[..end]).filter(|callee| !is_of_numbers(callee)) {
+                let called = last_name(callee);
                 if !called.is_empty() && !reached.contains(&called) {
                     reached.push(called);
                 }
@@ -48,6 +49,11 @@ fn listed(source: &str) -> Vec<(&str, &str)> {
 /// The name that a text ends with; empty where it ends otherwise.
 fn last_name(text: &str) -> &str {
     text.rsplit(|c: char| !c.is_alphanumeric() && c != '_').next().unwrap_or_default()
+}
+
+/// A method of the library's numbers, which copies nothing.
+fn is_of_numbers(callee: &str) -> bool {
+    callee.ends_with(".max") || callee.ends_with(".min")
 }
 
 fn is_name(text: &str) -> bool {
@@ -79,7 +85,7 @@ fn is_listed(line: &str) -> bool {
 
 /// Whether a value is the result of a call, a literal, or computed.
 fn is_new(value: &str) -> bool {
-    let is_result = value.ends_with(')') && value.split('(').next().is_some_and(is_name);
+    let is_result = value.ends_with(')') && value.split('(').next().is_some_and(|f| is_name(f) || is_of_numbers(f));
     let is_number = value.trim_start_matches('[').starts_with(char::is_numeric) && !value.contains(',');
     let operators = [" + ", " - ", " * ", " / ", " % ", " < ", " <= ", " > ", " >= ", " == ", " != ", " as "];
     let is_closed = |text: &str| text.matches(['(', '[']).count() == text.matches([')', ']']).count();
@@ -102,6 +108,7 @@ const PLANTED: &str = "
     let held = unified(sequence, asked).effect;     | sequence = replaced(from, to, sequence);
     sequence.effect = next;                         | sequence.effect = replaced(from, to, sequence.effect);
     next[i] = held[i];                              | let have = sequence.effect[i];
+    let held = sequence.copied(last);               | let from = have.max(want);
     next[i] = held[i + 1];                          | next[i] = held[i + 1] + 1;
     next[i] = entry;                                | sequence.effect[i] = stands_for(entry, held[place]);
     condition: needed,                              | condition: replaced(from, to, needed),
