@@ -15,9 +15,15 @@ use search_spec::ANY_VALUE;
 fn meets_goal(goal: &[u8], state: &[u8; PLACE_COUNT]) -> bool
     ensures { result ≡ meets_goal (take place_count goal.now) state.now }
 {
-    goal.iter()
-        .zip(state)
-        .all(|(wanted, held)| *wanted == ANY_VALUE || held == wanted)
+    // a `for`: a search asks this of each sequence, and with a chain of `zip` and `all` it takes longer
+    for i in 0..goal.len().min(PLACE_COUNT) {
+        if goal[i] != ANY_VALUE {
+            if state[i] != goal[i] {
+                return false;
+            }
+        }
+    }
+    true
 }
 
 // Whether a plan of that cost and that many moves replaces the best so far: it is cheaper, or costs the same and is
