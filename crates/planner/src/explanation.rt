@@ -29,6 +29,7 @@ pub extern "C" fn planner_explain(
         × (out.new ≡ explanation_buffer room answer)
         × TextExplainMeaning rules.now query moves.now room result out.new }
 {
+    // the C interface passes the parts of a query one by one
     let query = Query {
         reach,
         table,

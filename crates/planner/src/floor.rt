@@ -28,6 +28,7 @@ pub extern "C" fn planner_search_floor(
         × (plan.new ≡ found.plan)
         × TextSearchMeaning rules.now query room found }
 {
+    // the C interface passes the parts of a query one by one
     let query = Query {
         reach,
         table,

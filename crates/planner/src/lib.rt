@@ -116,6 +116,7 @@ pub extern "C" fn planner_search(
         × (plan.new ≡ (searched_text rules.now query room).plan)
         × TextSearchMeaning rules.now query room found) }
 {
+    // the C interface passes the parts of a query one by one
     let query = Query {
         reach,
         table,

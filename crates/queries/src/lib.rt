@@ -1,10 +1,10 @@
 // What is judged of a query before any sequence is visited.
 #![tactic(auto)]
 
-ghost use Rattle.std.specs.Prelude.{◌≡◌, ◌≤◌};
+ghost use Rattle.std.specs.Prelude.{◌≡◌, ℕ, ◌≤◌};
 ghost use Rattle.model_spec.specs.Limits.{max_positions};
 ghost use Rattle.model_spec.specs.Refusals.{first_refusal};
-ghost use Rattle.search_spec.specs.Query.{query_of, start_fits, goal_fits};
+ghost use Rattle.search_spec.specs.Query.{asked, start_fits, goal_fits};
 ghost use Rattle.search_spec.specs.Searched.{query_causes};
 ghost use Rattle.refusals_spec.specs.Numbers.{outcome_number};
 
@@ -37,10 +37,12 @@ fn goal_fits(set: RuleSet, goal: &[u8]) -> bool
             .all(|(value, size)| *value == ANY_VALUE || value < size)
 }
 
-// The first cause for which a query is refused. The table is checked first, but that it is not accepted waits for the
-// query's own causes.
+// The first cause for which a query is refused, whatever its cost bound and its step limit are. The table is checked
+// first, but that it is not accepted waits for the query's own causes.
 pub fn query_refusal(set: RuleSet, query: Query<'_>, plan_size: usize) -> Result<(), Refusal>
-    ensures { let asked = query_of query.entry in
+    ensures { (max_cost step_limit : ℕ)
+        → let q = query.entry in
+        let asked = asked q.reach q.table.now q.start.now q.goal.now q.max_moves max_cost step_limit in
         outcome_number result ≡ first_refusal (query_causes set asked plan_size) }
 {
     let checked = check_outcome(set, query.reach, query.table);

@@ -26,14 +26,15 @@ returns-in-Ok c =
     let query = query_of a.query in
     let q = a.moves.now in
     means a.set query q _
-    (c.bare.ensures ∙ ap bare c.number_of.ensures ∙ unknown-first a.set query q (sym c.in-Ok.ensures)
+    (c.bare.ensures ∙ ap bare c.number_of.ensures
+    ∙ unknown-first a.set query q (sym (c.in-Ok.ensures a.query.max_cost a.query.step_limit))
     (sym c.has_unknown_move.ensures ∙ c.if-has_unknown_move.true))
 
 pub returns-in-Err : goal.returns-in-Err
 returns-in-Err c =
     let a = c.args in
     let query = query_of a.query in
-    let told = c.in-Err.ensures in
+    let told = c.in-Err.ensures a.query.max_cost a.query.step_limit in
     means a.set query a.moves.now _
     (c.bare-in-Err.ensures ∙ ap bare (c.number_of-in-Err.ensures ∙ told)
     ∙ refused-first a.set query a.moves.now (λ z. number_positive c.in-Err.refusal (told ∙ z)))
