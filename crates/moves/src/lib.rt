@@ -49,7 +49,10 @@ pub fn cost_of(set: RuleSet, moves: &[u8]) -> u32
 {
     let mut total = 0;
     for number in moves {
-        total = MORE_THAN_U16.min(total + u32::from(cost_at(set, *number)));
+        total += u32::from(cost_at(set, *number));
+        if MORE_THAN_U16 < total {
+            return MORE_THAN_U16;
+        }
     }
     total
 }
