@@ -31,7 +31,9 @@ pub fn witness_serves(set: RuleSet, own: Profile, index: usize, entry: usize) ->
 }
 
 // What the entry at an index marks: nothing where it keeps its sequence, else the sequence of these vectors. Refused
-// where it neither keeps its sequence nor names a smaller index with whose sequence it is redundant.
+// where it neither keeps its sequence nor names a smaller index with whose sequence it is redundant. Both callers' loops
+// take it in: a table keeps most of its entries, and each then costs a comparison alone.
+#[inline(always)]
 pub fn mark_at(set: RuleSet, table: &[u8], index: usize) -> Result<Option<Vectors>, Refusal>
     ensures outcome { WellFormed set → index < table_entries set 3
         → outcome_number result ≡ cond (entry_justified set 3 table.now index) 0 14 }
