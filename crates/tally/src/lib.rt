@@ -2,9 +2,16 @@
 #![tactic(auto)]
 
 ghost use Rattle.std.specs.Prelude.{◌≡◌};
-ghost use Rattle.search_spec.specs.Tallies.{tallied_of, TallyMeaning};
+ghost use Rattle.search_spec.specs.Tallies.{raised, tallied_of, TallyMeaning};
 
 use search_spec::Tally;
+
+// A count raised by a number, at most to its top.
+fn raised(count: u64, more: u64) -> u64
+    ensures { result ≡ raised count more }
+{
+    count.saturating_add(more)
+}
 
 // The tally after a query: 1 more in the count of its outcome, and its steps in their sum. A count stays at its top.
 pub fn tallied(tally: Tally, outcome: u8, steps: u32) -> Tally
@@ -12,24 +19,24 @@ pub fn tallied(tally: Tally, outcome: u8, steps: u32) -> Tally
         × TallyMeaning outcome steps tally result }
 {
     let summed = Tally {
-        steps: tally.steps.saturating_add(u64::from(steps)),
+        steps: raised(tally.steps, u64::from(steps)),
         ..tally
     };
     match outcome {
         0 => Tally {
-            solved: tally.solved.saturating_add(1),
+            solved: raised(tally.solved, 1),
             ..summed
         },
         15 => Tally {
-            unsolvable: tally.unsolvable.saturating_add(1),
+            unsolvable: raised(tally.unsolvable, 1),
             ..summed
         },
         16 | 18 => Tally {
-            limited: tally.limited.saturating_add(1),
+            limited: raised(tally.limited, 1),
             ..summed
         },
         _ => Tally {
-            refused: tally.refused.saturating_add(1),
+            refused: raised(tally.refused, 1),
             ..summed
         },
     }

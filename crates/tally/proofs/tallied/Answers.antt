@@ -21,14 +21,14 @@ unfolding tallied_of
 returns-in-0 c =
     let a = c.args in
     told a.tally a.outcome a.steps _
-    (simp (c.in-0.is, c.saturating_add.ensures, c.saturating_add-in-0.ensures, c.from.ensures))
+    (simp (c.in-0.is, c.raised.ensures, c.raised-in-0.ensures, c.from.ensures))
 
 pub returns-in-15 : goal.returns-in-15
 unfolding tallied_of
 returns-in-15 c =
     let a = c.args in
     told a.tally a.outcome a.steps _
-    (simp (c.in-15.is, c.saturating_add.ensures, c.saturating_add-in-15.ensures, c.from.ensures))
+    (simp (c.in-15.is, c.raised.ensures, c.raised-in-15.ensures, c.from.ensures))
 
 pub returns-in-16 : goal.returns-in-16
 unfolding tallied_of
@@ -36,8 +36,8 @@ returns-in-16 c =
     let a = c.args in
     told a.tally a.outcome a.steps _
     (elim c.in-16.is [
-      | inl e ↦ simp (e, c.saturating_add.ensures, c.saturating_add-in-16.ensures, c.from.ensures)
-      | inr e ↦ simp (e, c.saturating_add.ensures, c.saturating_add-in-16.ensures, c.from.ensures)
+      | inl e ↦ simp (e, c.raised.ensures, c.raised-in-16.ensures, c.from.ensures)
+      | inr e ↦ simp (e, c.raised.ensures, c.raised-in-16.ensures, c.from.ensures)
     ])
 
 pub returns-in_default : goal.returns-in_default
@@ -57,7 +57,7 @@ returns-in_default c =
       tests.1,
       tests.2,
       tests.3,
-      c.saturating_add.ensures,
-      c.saturating_add-in_default.ensures,
+      c.raised.ensures,
+      c.raised-in_default.ensures,
       c.from.ensures,
     ))
