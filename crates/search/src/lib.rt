@@ -7,6 +7,7 @@ ghost use Rattle.search_spec.specs.Query.{query_of};
 ghost use Rattle.search_spec.specs.Searched.{Searched, searched, SearchMeaning};
 ghost use Rattle.search_spec.specs.PlanPart.{PartMeaning};
 
+use buffers::fill_from;
 use model_spec::RuleSet;
 use refusals::number_of;
 use search_progress::{floor_shown, outcome_of};
@@ -36,7 +37,7 @@ pub fn search(set: RuleSet, query: Query<'_>, plan: &mut [u8]) -> Answer
         × SearchMeaning set asked room found
         × PartMeaning set asked room found) }
 {
-    plan.fill(NO_MOVE);
+    fill_from(plan, 0, NO_MOVE);
     let progress = match explored(set, query, plan.len()) {
         Ok(progress) => progress,
         Err(refusal) => return without_plan(number_of(refusal), 0),

@@ -1,13 +1,16 @@
 -- `search::search` meets its contract: each way out leaves what the definition `searched` leaves, which has its
 -- meaning.
-use mathlib.Core.Path.{refl, sym, ap, ◌∙◌}
-use mathlib.Core.List.{◌++◌}
-use lib.ListN.{length, drop}
+use mathlib.Core.Path.{◌≡◌, refl, sym, ap, ◌∙◌}
+use mathlib.Core.List.{List, ◌++◌}
+use Prim.Native.Nat.{ℕ}
+use lib.ListN.{length, drop, replicate, length-replicate}
 use Rattle.std.proofs.lemmas.List.{length-take-le}
 use borrow.Author.Rules.{rules}
+use Rattle.model_spec.proofs.BufferLaws.{filled-whole}
+use Rattle.model_spec.specs.How.Buffers.{filled_from}
 use Rattle.model_spec.specs.Refusals.{first_refusal}
 use Rattle.search_spec.specs.Query.{query_of}
-use Rattle.search_spec.specs.Searched.{query_causes}
+use Rattle.search_spec.specs.Searched.{query_causes, no_move}
 use Rattle.search_spec.proofs.Demand.{without_plan}
 use Rattle.search_spec.proofs.OutcomeLaws.{searched-refused}
 use Rattle.search_laws.proofs.AnswerLaws.{left_with, answers, explored_planless, explored-room, explored-shown}
@@ -15,26 +18,36 @@ use Rattle.search_laws.specs.How.Visits.{outcome_of}
 use Rattle.refusals_spec.proofs.NumberLaws.{number_positive}
 use Rattle.search.proofs.search.Goals as goal
 
+-- the plan buffer once it is filled
+module _ (plan filled : List ℕ) (e : filled ≡ filled_from no_move 0 plan) where
+  blank : filled ≡ replicate (length plan) no_move
+  blank = e ∙ filled-whole no_move plan
+
+  blank-length : length filled ≡ length plan
+  blank-length = ap length blank ∙ length-replicate (length plan) no_move
+
 pub returns-in-Err : goal.returns-in-Err
 returns-in-Err c =
     let set = c.args.set in
     let query = query_of c.args.query in
     let room = length c.args.plan.now in
-    let told = c.in-Err.ensures.refusal ∙ ap (λ n. first_refusal (query_causes set query n)) c.fill.ensures.len in
+    let told = c.in-Err.ensures.refusal
+    ∙ ap (λ n. first_refusal (query_causes set query n)) (blank-length _ _ c.fill_from.ensures) in
     let refused = searched-refused set query room (λ k. number_positive c.in-Err.refusal (told ∙ k)) in
     answers set query room _ _ (without_plan room c.number_of.result 0) c.without_plan.ensures
-    (c.fill.ensures.after (λ y e. e)) (ap (λ n. without_plan room n 0) (c.number_of.ensures ∙ told) ∙ sym refused)
+    (blank _ _ c.fill_from.ensures) (ap (λ n. without_plan room n 0) (c.number_of.ensures ∙ told) ∙ sym refused)
 
 pub returns-in-None : goal.returns-in-None
 returns-in-None c =
     let set = c.args.set in
     let query = query_of c.args.query in
     let room = length c.args.plan.now in
-    let told = c.in-Ok.ensures.refusal ∙ ap (λ n. first_refusal (query_causes set query n)) c.fill.ensures.len in
+    let told = c.in-Ok.ensures.refusal
+    ∙ ap (λ n. first_refusal (query_causes set query n)) (blank-length _ _ c.fill_from.ensures) in
     let progress = c.in-Ok.progress in
     let left = explored_planless set query room (sym told) progress c.in-Ok.ensures.progress _
     (c.outcome_of-outcome.ensures ∙ ap (outcome_of progress.exceeded) c.is_some.ensures) c.in-None.is in
-    answers set query room _ _ _ c.without_plan-in-None.ensures (c.fill.ensures.after (λ y e. e)) left
+    answers set query room _ _ _ c.without_plan-in-None.ensures (blank _ _ c.fill_from.ensures) left
 
 pub slice_bounds-copy_from_slice-end : goal.slice_bounds-copy_from_slice-end
 slice_bounds-copy_from_slice-end c =
@@ -71,12 +84,14 @@ returns c =
     let set = c.args.set in
     let query = query_of c.args.query in
     let room = length c.args.plan.now in
-    let told = c.in-Ok.ensures.refusal ∙ ap (λ n. first_refusal (query_causes set query n)) c.fill.ensures.len in
+    let told = c.in-Ok.ensures.refusal
+    ∙ ap (λ n. first_refusal (query_causes set query n)) (blank-length _ _ c.fill_from.ensures) in
     let progress = c.in-Ok.progress in
     let left = explored-shown set query room (sym told) progress c.in-Ok.ensures.progress
     c.in-Some.best c.in-Some.is _ _
     (c.outcome_of-outcome.ensures ∙ ap (outcome_of progress.exceeded) c.is_some.ensures) c.floor_shown-floor.ensures
-    c.fill.new.self (c.fill.ensures.after (λ y e. e)) in
+    c.fill_from.new.buffer (blank _ _ c.fill_from.ensures) in
     answers set query room _ _
-    (left_with c.outcome_of-outcome.result c.in-Some.best progress.steps c.floor_shown-floor.result c.fill.new.self)
-    refl (ap (λ l. l ++ drop c.in-Some.best.length c.fill.new.self) c.copy_from_slice.ensures.after) left
+    (left_with c.outcome_of-outcome.result c.in-Some.best progress.steps c.floor_shown-floor.result
+    c.fill_from.new.buffer)
+    refl (ap (λ l. l ++ drop c.in-Some.best.length c.fill_from.new.buffer) c.copy_from_slice.ensures.after) left
