@@ -48,7 +48,8 @@ fn shortest_at(count: u8, reach: usize, table: &[u8], moves: &[u8], end: usize) 
     requires { end ≤ length moves.now }
     ensures { result ≡ place_if (shortest_at (looked_up count reach table.now) moves.now end) }
 {
-    for many in 1..=reach.min(LONGEST).min(end) {
+    // up to the place behind the last: a range that holds its last takes near twice as long, and so below
+    for many in 1..reach.min(LONGEST).min(end) + 1 {
         if is_marked(count, reach, table, &moves[end - many..end]) {
             return Some(many as u8);
         }
@@ -61,7 +62,7 @@ pub fn marked_segment(count: u8, reach: usize, table: &[u8], moves: &[u8]) -> Op
     ensures { let marks = looked_up count reach table.now in
         result ≡ segment_if (soonest_end marks moves.now) (soonest_length marks moves.now) }
 {
-    for end in 1..=moves.len() {
+    for end in 1..moves.len() + 1 {
         if let Some(length) = shortest_at(count, reach, table, moves, end) {
             return Some(Segment { end, length });
         }

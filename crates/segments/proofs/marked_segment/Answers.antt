@@ -18,9 +18,3 @@ loop-end-preserved c =
 
 pub returns : goal.returns
 returns c = ends-end _ _ _ _ c.loop-end.end c.loop-end.invariant (omega arith)
-
-pub returns-in_default : goal.returns-in_default
-returns-in_default c =
-    ends-end _ _ _ _ _
-    (ends_go _ _ _ _ c.loop-end.end c.loop-end.invariant (omega arith) (sym c.in_default.is ∙ c.shortest_at.ensures))
-    (omega arith)

@@ -41,13 +41,3 @@ returns c =
     let most = c.min-many-end.ensures in
     none_found _ (shortest-end s.count s.reach s.table.now s.moves.now s.end c.requires c.loop-many.many (omega arith)
     (omega (arith, c.min.ensures)) c.loop-many.invariant)
-
-pub returns-else-is_marked : goal.returns-else-is_marked
-returns-else-is_marked c =
-    let s = c.args in
-    let most = c.min-many-end.ensures in
-    let part = lent s.moves.now s.end c.loop-many.many (omega arith) in
-    let told = ap (looked_up s.count s.reach s.table.now) (sym part) ∙ sym c.is_marked.ensures in
-    none_found _ (shortest-end s.count s.reach s.table.now s.moves.now s.end c.requires (c.loop-many.many + 1)
-    (omega arith) (omega (arith, c.min.ensures))
-    (from_go _ s.end c.loop-many.many _ c.loop-many.invariant (omega arith) (told ∙ c.if-is_marked.false)))
