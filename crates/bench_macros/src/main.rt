@@ -5,13 +5,13 @@
 // beside the same work in Rust.
 #![tactic(auto)]
 
-ghost use Rattle.std.specs.Prelude.{◌<◌, length};
+ghost use Rattle.std.specs.Prelude.{◌<◌, ◌≤◌, length};
 
+use arrayvec::ArrayVec;
 use composition::{empty, extended};
 use macros_spec::Vectors;
 use model_spec::{MAX_RULES, MOVE_LIMIT, PLACE_COUNT, RuleSet};
 use standard_input::{large_buffer, read_full};
-use std::alloc::{AllocError, Global};
 use std::io;
 
 // What is counted of the macros: those that some state admits, the sum of their entries, and the sum of that sum
@@ -155,7 +155,9 @@ fn byte_of(text: &[u8]) -> u8 {
 }
 
 // The number at the start of a line, the byte that ends its digits, and the text behind that byte.
-fn leading_number(text: &[u8]) -> (u8, Option<u8>, &[u8]) {
+fn leading_number(text: &[u8]) -> (u8, Option<u8>, &[u8])
+    ensures { length result.2.now ≤ length text.now }
+{
     let size = text
         .iter()
         .position(|b| *b == b',' || *b == b'\n')
@@ -168,31 +170,35 @@ fn leading_number(text: &[u8]) -> (u8, Option<u8>, &[u8]) {
 }
 
 // The numbers of a line, at most 32, and the text behind them.
-fn leading_line(alloc: Global, text: &[u8]) -> Result<(Vec<u8>, &[u8]), AllocError> {
-    let mut numbers = Vec::new(alloc);
+fn leading_line(text: &[u8]) -> (ArrayVec<u8, MOVE_LIMIT>, &[u8])
+    ensures { length result.1.now ≤ length text.now }
+{
+    let mut numbers = ArrayVec::new();
     let mut rest = text;
     for _ in 0..MOVE_LIMIT {
         let (number, end, behind) = leading_number(rest);
-        numbers.push(number)?;
+        numbers.push(number);
         rest = behind;
         if end != Some(b',') {
             break;
         }
     }
-    Ok((numbers, rest))
+    (numbers, rest)
 }
 
 // The line of numbers before a rule file, and the file. Where the text begins with no digit, it is the file.
-fn list_before(alloc: Global, text: &[u8]) -> Result<(Vec<u8>, &[u8]), AllocError> {
+fn list_before(text: &[u8]) -> (ArrayVec<u8, MOVE_LIMIT>, &[u8])
+    ensures { length result.1.now ≤ length text.now }
+{
     match text {
-        [b'0'..=b'9', ..] => leading_line(alloc, text),
-        _ => Ok((Vec::new(alloc), text)),
+        [b'0'..=b'9', ..] => leading_line(text),
+        _ => (ArrayVec::new(), text),
     }
 }
 
 // Reads the list, if there is one, and the file, and prints what is counted.
-fn run(rt: &(impl Print + AllocGlobal), input: &[u8]) -> io::Result<()> {
-    let (moves, file) = list_before(rt.alloc(), input)?;
+fn run(rt: &impl Print, input: &[u8]) -> io::Result<()> {
+    let (moves, file) = list_before(input);
     let reading = reader::read(file);
     println!(rt; "outcome={}", reading.outcome)?;
     if reading.outcome != 0 {
