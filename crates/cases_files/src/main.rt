@@ -11,11 +11,17 @@
 // The answers that `stdout` holds were written by hand from documents 01 and 02.
 #![tactic(auto)]
 
+ghost use Rattle.std.specs.Prelude.{◌≤◌};
+ghost use Rattle.arrayvec.specs.ArrayVec.{array_vec_len};
+
+use arrayvec::ArrayVec;
 use cases_common::shown;
 use model_spec::{Rule, RuleSet};
 use standard_input::{large_buffer, read_full};
-use std::alloc::{AllocError, Global};
 use std::io;
+
+// The most bytes of a text, and of a buffer that a set is written into.
+const TEXT_SIZE: usize = 65536;
 
 // The byte that a letter stands for after `\`.
 fn escaped(letter: u8) -> u8 {
@@ -28,18 +34,22 @@ fn escaped(letter: u8) -> u8 {
     }
 }
 
-// The text that a part of the input stands for. A `\` at its end stands for 0.
-fn decoded(alloc: Global, input: &[u8]) -> Result<Vec<u8>, AllocError> {
-    let mut text = Vec::new(alloc);
+// Makes a text the one that a part of the input stands for, as far as there is room. A `\` at its end stands for 0.
+fn decode(input: &[u8], text: &mut ArrayVec<u8, TEXT_SIZE>)
+    ensures { array_vec_len text.new ≤ 65536 }
+{
     let mut bytes = input.iter();
+    text.clear();
     while let Some(byte) = bytes.next() {
+        if text.is_full() {
+            break;
+        }
         text.push(match *byte {
             b'/' => b'\n',
             b'\\' => escaped(bytes.next().copied().unwrap_or(0)),
             other => other,
-        })?;
+        });
     }
-    Ok(text)
 }
 
 // Whether a list is zero throughout.
@@ -100,20 +110,19 @@ fn print_content(rt: &impl Print, buffer: &[u8], text: &[u8]) -> io::Result<()> 
 }
 
 // Writes a set into a buffer of so many bytes, full of `z` before: outcome, length and what the buffer then holds.
-fn print_written(
-    rt: &(impl Print + AllocGlobal),
-    set: RuleSet,
-    text: &[u8],
-    size: usize,
-) -> io::Result<()> {
-    let mut buffer = vec![in rt.alloc(); b'z'; size]?;
-    let written = writer::write(set, &mut buffer);
+// Nothing for more than 65,536 bytes.
+fn print_written(rt: &impl Print, set: RuleSet, text: &[u8], size: usize) -> io::Result<()> {
+    let mut space = [b'z'; TEXT_SIZE];
+    let Some(buffer) = space.get_mut(..size) else {
+        return Ok(());
+    };
+    let written = writer::write(set, buffer);
     print!(rt; "{},{},", written.outcome, written.length)?;
-    print_content(rt, &buffer, text)
+    print_content(rt, buffer, text)
 }
 
 // Writes the set of a text into five buffers. Nothing for the empty text.
-fn print_rewritten(rt: &(impl Print + AllocGlobal), text: &[u8]) -> io::Result<()> {
+fn print_rewritten(rt: &impl Print, text: &[u8]) -> io::Result<()> {
     let set = reader::read(text).set;
     let size = text.len();
     if size == 0 {
@@ -207,7 +216,7 @@ fn print_line(rt: &impl Print, line: &[u8]) -> io::Result<()> {
 }
 
 // The answer to a case, by its letter.
-fn print_answer(rt: &(impl Print + AllocGlobal), verb: u8, text: &[u8]) -> io::Result<()> {
+fn print_answer(rt: &impl Print, verb: u8, text: &[u8]) -> io::Result<()> {
     match verb {
         b'r' => print_reading(rt, text),
         b'c' => print_cuts(rt, text),
@@ -218,24 +227,25 @@ fn print_answer(rt: &(impl Print + AllocGlobal), verb: u8, text: &[u8]) -> io::R
     }
 }
 
-// One case, or a heading, on a line of the input.
-fn run(rt: &(impl Print + AllocGlobal), line: &[u8]) -> io::Result<()> {
+// One case, or a heading, on a line of the input. The text that stands in it goes through the lent one.
+fn run(rt: &impl Print, line: &[u8], text: &mut ArrayVec<u8, TEXT_SIZE>) -> io::Result<()> {
     let [verb, _, input @ ..] = line else {
         return Ok(());
     };
     print_line(rt, line)?;
     if *verb != b'#' {
-        let text = decoded(rt.alloc(), input)?;
+        decode(input, text);
         print!(rt; " -> ")?;
-        print_answer(rt, *verb, &text)?;
+        print_answer(rt, *verb, text)?;
     }
     print!(rt; "\n")
 }
 
 // The cases of all lines.
-fn run_lines(rt: &(impl Print + AllocGlobal), input: &[u8]) -> io::Result<()> {
+fn run_lines(rt: &impl Print, input: &[u8]) -> io::Result<()> {
+    let mut text = ArrayVec::new();
     for line in input.split(|b| *b == b'\n') {
-        run(rt, line)?;
+        run(rt, line, &mut text)?;
     }
     Ok(())
 }
