@@ -9,12 +9,12 @@
 // The answers that `stdout` holds were written by hand from documents 01 and 02 and from the source documents.
 #![tactic(auto)]
 
+use arrayvec::ArrayVec;
 use cases_common::{decode, shown, split_once};
 use macros_spec::{Macro, MacroAnswer, Touched, Vectors};
 use model_spec::{FIRST_VARIABLE, RuleSet};
 use moves::{cost_of, rule_at};
 use standard_input::{large_buffer, read_full};
-use std::alloc::{AllocError, Global};
 use std::io;
 
 // The most moves that are read of a text: more than a sequence may have.
@@ -29,14 +29,12 @@ fn byte_of(text: &[u8]) -> u8 {
 }
 
 // The moves of a text, at most 64.
-fn moves_of(alloc: Global, text: &[u8]) -> Result<Vec<u8>, AllocError> {
-    if text.is_empty() {
-        return Ok(Vec::new(alloc));
+fn moves_of(text: &[u8]) -> ArrayVec<u8, MOST_MOVES> {
+    let mut moves = ArrayVec::new();
+    if !text.is_empty() {
+        let _full = moves.extend(text.split(|b| *b == b',').map(|number| byte_of(number)));
     }
-    text.split(|b| *b == b',')
-        .take(MOST_MOVES)
-        .map(|number| byte_of(number))
-        .collect(alloc)
+    moves
 }
 
 // Whether a list is zero from a place on.
@@ -118,8 +116,8 @@ fn print_blank(rt: &impl Print, answer: MacroAnswer) -> io::Result<()> {
 }
 
 // The macro of the moves of a text.
-fn print_macro(rt: &(impl Print + AllocGlobal), set: RuleSet, text: &[u8]) -> io::Result<()> {
-    let moves = moves_of(rt.alloc(), text)?;
+fn print_macro(rt: &impl Print, set: RuleSet, text: &[u8]) -> io::Result<()> {
+    let moves = moves_of(text);
     let answer = macros::macro_of(set, &moves);
     print!(rt; "{}", answer.outcome)?;
     if answer.outcome == 0 {
@@ -149,13 +147,13 @@ fn print_redundancy(rt: &impl Print, set: RuleSet, moves: &[u8], witness: &[u8])
 }
 
 // The same of the two sequences of a text, with ` by ` between.
-fn print_compared(rt: &(impl Print + AllocGlobal), set: RuleSet, text: &[u8]) -> io::Result<()> {
+fn print_compared(rt: &impl Print, set: RuleSet, text: &[u8]) -> io::Result<()> {
     let (moves, rest) = split_once(b' ', text);
     let [_, _, _, witness @ ..] = rest else {
         return Ok(());
     };
-    let moves = moves_of(rt.alloc(), moves)?;
-    let witness = moves_of(rt.alloc(), witness)?;
+    let moves = moves_of(moves);
+    let witness = moves_of(witness);
     print_redundancy(rt, set, &moves, &witness)
 }
 
@@ -184,12 +182,7 @@ fn changed_set(rt: &impl Print, set: RuleSet, text: &[u8]) -> io::Result<RuleSet
 }
 
 // The answer to a case, by its letter; gives the set of the next case.
-fn answer(
-    rt: &(impl Print + AllocGlobal),
-    set: RuleSet,
-    verb: u8,
-    text: &[u8],
-) -> io::Result<RuleSet> {
+fn answer(rt: &impl Print, set: RuleSet, verb: u8, text: &[u8]) -> io::Result<RuleSet> {
     match verb {
         b'f' => return read_set(rt, text),
         b's' => return changed_set(rt, set, text),
@@ -208,7 +201,7 @@ fn print_line(rt: &impl Print, line: &[u8]) -> io::Result<()> {
 }
 
 // One case, or a heading, on a line of the input; gives the set of the next line.
-fn run(rt: &(impl Print + AllocGlobal), set: RuleSet, line: &[u8]) -> io::Result<RuleSet> {
+fn run(rt: &impl Print, set: RuleSet, line: &[u8]) -> io::Result<RuleSet> {
     let [verb, _, text @ ..] = line else {
         return Ok(set);
     };
@@ -223,7 +216,7 @@ fn run(rt: &(impl Print + AllocGlobal), set: RuleSet, line: &[u8]) -> io::Result
 }
 
 // The cases of all lines; the set of the first is the empty one.
-fn run_lines(rt: &(impl Print + AllocGlobal), input: &[u8]) -> io::Result<()> {
+fn run_lines(rt: &impl Print, input: &[u8]) -> io::Result<()> {
     let mut set = reader::read(b"").set;
     for line in input.split(|b| *b == b'\n') {
         set = run(rt, set, line)?;
