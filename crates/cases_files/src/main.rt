@@ -227,7 +227,7 @@ fn print_answer(rt: &impl Print, verb: u8, text: &[u8]) -> io::Result<()> {
     }
 }
 
-// One case, or a heading, on a line of the input. The text that stands in it goes through the lent one.
+// One case, or a heading, on a line of the input. The text that is lent becomes the one that the case stands for.
 fn run(rt: &impl Print, line: &[u8], text: &mut ArrayVec<u8, TEXT_SIZE>) -> io::Result<()> {
     let [verb, _, input @ ..] = line else {
         return Ok(());
