@@ -5,12 +5,12 @@
 // the same search in Rust.
 #![tactic(auto)]
 
-ghost use Rattle.std.specs.Prelude.{◌≤◌};
+ghost use Rattle.std.specs.Prelude.{◌≤◌, length};
 
+use arrayvec::ArrayVec;
 use model_spec::{MAX_RULES, MOVE_LIMIT, PLACE_COUNT, RuleSet};
 use search_spec::{Answer, NO_MOVE, Query};
 use standard_input::{large_buffer, read_full};
-use std::alloc::{AllocError, Global};
 use std::io;
 use tables::sequence_count;
 
@@ -29,7 +29,9 @@ fn with_digit(value: u64, digit: u8) -> u64 {
 }
 
 // The number at the start of a text, the byte that ends its digits, and the text behind that byte.
-fn leading_number(text: &[u8]) -> (u64, Option<u8>, &[u8]) {
+fn leading_number(text: &[u8]) -> (u64, Option<u8>, &[u8])
+    ensures { length result.2.now ≤ length text.now }
+{
     let size = text.iter().position(|b| *b < b'0').unwrap_or(text.len());
     let value = text[..size]
         .iter()
@@ -41,22 +43,26 @@ fn leading_number(text: &[u8]) -> (u64, Option<u8>, &[u8]) {
 }
 
 // The numbers of a line, one for each position at most, and the text behind them.
-fn leading_line(alloc: Global, text: &[u8]) -> Result<(Vec<u8>, &[u8]), AllocError> {
-    let mut numbers = Vec::new(alloc);
+fn leading_line(text: &[u8]) -> (ArrayVec<u8, PLACE_COUNT>, &[u8])
+    ensures { length result.1.now ≤ length text.now }
+{
+    let mut numbers = ArrayVec::new();
     let mut rest = text;
     for _ in 0..PLACE_COUNT {
         let (number, end, behind) = leading_number(rest);
-        numbers.push((number % 256) as u8)?;
+        numbers.push((number % 256) as u8);
         rest = behind;
         if end != Some(b',') {
             break;
         }
     }
-    Ok((numbers, rest))
+    (numbers, rest)
 }
 
 // The bounds of the first line, and the text behind it.
-fn leading_bounds(text: &[u8]) -> (Bounds, &[u8]) {
+fn leading_bounds(text: &[u8]) -> (Bounds, &[u8])
+    ensures { length result.1.now ≤ length text.now }
+{
     let (reach, _, rest) = leading_number(text);
     let (moves, _, rest) = leading_number(rest);
     let (cost, _, rest) = leading_number(rest);
@@ -118,10 +124,10 @@ fn run(rt: &impl Print, set: RuleSet, bounds: Bounds, start: &[u8], goal: &[u8])
 }
 
 // Reads the three lines and the file.
-fn read(rt: &(impl Print + AllocGlobal), input: &[u8]) -> io::Result<()> {
+fn read(rt: &impl Print, input: &[u8]) -> io::Result<()> {
     let (bounds, rest) = leading_bounds(input);
-    let (start, rest) = leading_line(rt.alloc(), rest)?;
-    let (goal, file) = leading_line(rt.alloc(), rest)?;
+    let (start, rest) = leading_line(rest);
+    let (goal, file) = leading_line(rest);
     let reading = reader::read(file);
     println!(rt; "read={}", reading.outcome)?;
     if reading.outcome == 0 {
