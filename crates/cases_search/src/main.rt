@@ -45,13 +45,16 @@
 // 3,000.
 #![tactic(auto)]
 
+ghost use Rattle.std.specs.Prelude.{◌≡◌, ◌≤◌, min};
+ghost use Rattle.arrayvec.specs.ArrayVec.{array_vec_len};
+
+use arrayvec::ArrayVec;
 use cases_buffers::put_entry;
 use cases_common::{decode, number_of, shown, split_once, up_to};
 use explain_spec::Explanation;
 use model_spec::RuleSet;
 use search_spec::{Answer, NO_MOVE, Query, Tally};
 use standard_input::{large_buffer, read_full};
-use std::alloc::{AllocError, Global};
 use std::io;
 use tables::{KEPT, entry_at};
 
@@ -65,17 +68,17 @@ const PLAN_SIZE: usize = 4096;
 #[derive(Drop)]
 struct Standing {
     set: RuleSet,
-    table: Vec<u8>,
+    table: ArrayVec<u8, TABLE_SIZE>,
     tally: Tally,
-    plan: Vec<u8>,
+    plan: ArrayVec<u8, PLAN_SIZE>,
 }
 
 // What `q`, `k` and `x` ask. The last text is the room, or the proposal.
 #[derive(Drop)]
 struct Asked<'a> {
     reach: usize,
-    start: Vec<u8>,
-    goal: Vec<u8>,
+    start: ArrayVec<u8, PLAN_SIZE>,
+    goal: ArrayVec<u8, PLAN_SIZE>,
     max_moves: usize,
     max_cost: u16,
     step_limit: u32,
@@ -83,33 +86,34 @@ struct Asked<'a> {
 }
 
 // The numbers of a comma list, at most 4,096, 255 for each that is larger. `-` is the empty list.
-fn list_of(alloc: Global, text: &[u8]) -> Result<Vec<u8>, AllocError> {
-    if text.first() == Some(&b'-') {
-        return Ok(Vec::new(alloc));
+fn list_of(text: &[u8]) -> ArrayVec<u8, PLAN_SIZE> {
+    let mut list = ArrayVec::new();
+    if text.first() != Some(&b'-') {
+        let numbers = text
+            .split_inclusive(|b| *b == b',')
+            .map(|part| number_of(up_to(b',', part)).min(255) as u8);
+        let _full = list.extend(numbers);
     }
-    text.split_inclusive(|b| *b == b',')
-        .take(PLAN_SIZE)
-        .map(|part| number_of(up_to(b',', part)).min(255) as u8)
-        .collect(alloc)
+    list
 }
 
 // What a text asks.
-fn asked_of(alloc: Global, text: &[u8]) -> Result<Asked<'_>, AllocError> {
+fn asked_of(text: &[u8]) -> Asked<'_> {
     let (reach, rest) = split_once(b' ', text);
     let (start, rest) = split_once(b' ', rest);
     let (goal, rest) = split_once(b' ', rest);
     let (moves, rest) = split_once(b' ', rest);
     let (cost, rest) = split_once(b' ', rest);
     let (limit, last) = split_once(b' ', rest);
-    Ok(Asked {
+    Asked {
         reach: number_of(reach),
-        start: list_of(alloc, start)?,
-        goal: list_of(alloc, goal)?,
+        start: list_of(start),
+        goal: list_of(goal),
         max_moves: number_of(moves),
         max_cost: number_of(cost).min(65535) as u16,
         step_limit: number_of(limit).min(4294967295) as u32,
         last,
-    })
+    }
 }
 
 // The query that is asked, over a table.
@@ -155,25 +159,44 @@ fn marks_of(table: &[u8]) -> usize {
         .count()
 }
 
-// The answer to `b`; gives the table that now stands, built over bytes of 170.
-fn built(rt: &(impl Print + AllocGlobal), set: RuleSet, text: &[u8]) -> io::Result<Vec<u8>> {
-    let (reach, size) = split_once(b' ', text);
-    let mut table = vec![in rt.alloc(); 170; number_of(size).min(TABLE_SIZE)]?;
-    let answer = builder::build_table(set, number_of(reach), &mut table);
-    print!(rt; "{}", answer.outcome)?;
-    if answer.outcome == 0 {
-        print!(rt; "; {} marks", marks_of(&table))?;
-    }
-    Ok(table)
+// Makes a table so many bytes of a value, at most 65,536.
+fn refill(size: usize, value: u8, table: &mut ArrayVec<u8, TABLE_SIZE>)
+    ensures { array_vec_len table.new ≡ min size 65536 }
+{
+    let mut space = large_buffer();
+    let bytes = &mut space[..size.min(TABLE_SIZE)];
+    bytes.fill(value);
+    table.clear();
+    let _fits = table.try_extend_from_slice(bytes);
 }
 
-// The answer to `t`; gives the table that now stands, of these entries, the others kept.
-fn made(rt: &(impl Print + AllocGlobal), text: &[u8]) -> io::Result<Vec<u8>> {
+// The answer to `b`; the table that now stands is built over bytes of 170.
+fn built(
+    rt: &impl Print,
+    set: RuleSet,
+    text: &[u8],
+    table: &mut ArrayVec<u8, TABLE_SIZE>,
+) -> io::Result<()>
+    ensures { array_vec_len table.new ≤ 65536 }
+{
+    let (reach, size) = split_once(b' ', text);
+    refill(number_of(size), 170, table);
+    let answer = builder::build_table(set, number_of(reach), table);
+    print!(rt; "{}", answer.outcome)?;
+    if answer.outcome == 0 {
+        print!(rt; "; {} marks", marks_of(table))?;
+    }
+    Ok(())
+}
+
+// The answer to `t`; the table that now stands is of these entries, the others kept.
+fn made(rt: &impl Print, text: &[u8], table: &mut ArrayVec<u8, TABLE_SIZE>) -> io::Result<()>
+    ensures { array_vec_len table.new ≤ 65536 }
+{
     let (size, entries) = split_once(b' ', text);
-    let mut table = vec![in rt.alloc(); 255; number_of(size).min(TABLE_SIZE)]?;
-    put_entries(entries, &mut table);
-    print!(rt; "{} marks", marks_of(&table))?;
-    Ok(table)
+    refill(number_of(size), 255, table);
+    put_entries(entries, table);
+    print!(rt; "{} marks", marks_of(table))
 }
 
 // The moves of a plan, with commas between.
@@ -210,14 +233,11 @@ fn print_answer(rt: &impl Print, answer: Answer, plan: &[u8]) -> io::Result<()> 
 }
 
 // The answer to `q`: a search with a plan buffer of its own, over bytes of 170.
-fn print_search(
-    rt: &(impl Print + AllocGlobal),
-    standing: &Standing,
-    asked: &Asked<'_>,
-) -> io::Result<()> {
-    let mut plan = vec![in rt.alloc(); 170; number_of(asked.last).min(PLAN_SIZE)]?;
-    let answer = search::search(standing.set, query_of(asked, &standing.table), &mut plan);
-    print_answer(rt, answer, &plan)
+fn print_search(rt: &impl Print, standing: &Standing, asked: &Asked<'_>) -> io::Result<()> {
+    let mut space = [170; PLAN_SIZE];
+    let plan = &mut space[..number_of(asked.last).min(PLAN_SIZE)];
+    let answer = search::search(standing.set, query_of(asked, &standing.table), plan);
+    print_answer(rt, answer, plan)
 }
 
 // The counts of a tally, with commas between.
@@ -265,12 +285,8 @@ fn print_segment(rt: &impl Print, answer: Explanation) -> io::Result<()> {
 }
 
 // The answer to `x`: why the proposal is not the plan.
-fn print_explanation(
-    rt: &(impl Print + AllocGlobal),
-    standing: &Standing,
-    asked: &Asked<'_>,
-) -> io::Result<()> {
-    let proposal = list_of(rt.alloc(), asked.last)?;
+fn print_explanation(rt: &impl Print, standing: &Standing, asked: &Asked<'_>) -> io::Result<()> {
+    let proposal = list_of(asked.last);
     let answer = explain::explain(standing.set, query_of(asked, &standing.table), &proposal);
     print_reason(rt, answer)?;
     print_segment(rt, answer)
@@ -320,17 +336,12 @@ fn changed_set(rt: &impl Print, set: RuleSet, text: &[u8]) -> io::Result<RuleSet
 }
 
 // The answer to a case, by its letter.
-fn answer(
-    rt: &(impl Print + AllocGlobal),
-    standing: &mut Standing,
-    verb: u8,
-    text: &[u8],
-) -> io::Result<()> {
+fn answer(rt: &impl Print, standing: &mut Standing, verb: u8, text: &[u8]) -> io::Result<()> {
     match verb {
         b'f' => standing.set = read_set(rt, text)?,
         b's' => standing.set = changed_set(rt, standing.set, text)?,
-        b'b' => standing.table = built(rt, standing.set, text)?,
-        b't' => standing.table = made(rt, text)?,
+        b'b' => built(rt, standing.set, text, &mut standing.table)?,
+        b't' => made(rt, text, &mut standing.table)?,
         b'c' => {
             standing.tally = tally_of(text);
             print!(rt; "tally ")?;
@@ -338,9 +349,9 @@ fn answer(
         }
         b'u' => print_updates(rt, standing, text)?,
         b'p' => print_part(rt, &standing.plan, text)?,
-        b'q' => print_search(rt, standing, &asked_of(rt.alloc(), text)?)?,
-        b'k' => print_tallied_search(rt, standing, &asked_of(rt.alloc(), text)?)?,
-        b'x' => print_explanation(rt, standing, &asked_of(rt.alloc(), text)?)?,
+        b'q' => print_search(rt, standing, &asked_of(text))?,
+        b'k' => print_tallied_search(rt, standing, &asked_of(text))?,
+        b'x' => print_explanation(rt, standing, &asked_of(text))?,
         _ => {}
     }
     Ok(())
@@ -354,7 +365,7 @@ fn print_line(rt: &impl Print, line: &[u8]) -> io::Result<()> {
 }
 
 // One case, or a heading, on a line of the input.
-fn run(rt: &(impl Print + AllocGlobal), standing: &mut Standing, line: &[u8]) -> io::Result<()> {
+fn run(rt: &impl Print, standing: &mut Standing, line: &[u8]) -> io::Result<()> {
     let [verb, _, text @ ..] = line else {
         return Ok(());
     };
@@ -367,12 +378,12 @@ fn run(rt: &(impl Print + AllocGlobal), standing: &mut Standing, line: &[u8]) ->
 }
 
 // The cases of all lines. Before the first stand the empty set, no table, a tally of 0 throughout and bytes of 170.
-fn run_lines(rt: &(impl Print + AllocGlobal), input: &[u8]) -> io::Result<()> {
+fn run_lines(rt: &impl Print, input: &[u8]) -> io::Result<()> {
     let mut standing = Standing {
         set: reader::read(b"").set,
-        table: Vec::new(rt.alloc()),
+        table: ArrayVec::new(),
         tally: tally_of(b""),
-        plan: vec![in rt.alloc(); 170; PLAN_SIZE]?,
+        plan: ArrayVec::from([170; PLAN_SIZE]),
     };
     for line in input.split(|b| *b == b'\n') {
         run(rt, &mut standing, line)?;
