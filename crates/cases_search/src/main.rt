@@ -45,7 +45,7 @@
 // 3,000.
 #![tactic(auto)]
 
-ghost use Rattle.std.specs.Prelude.{◌≡◌, ◌≤◌, min};
+ghost use Rattle.std.specs.Prelude.{◌≤◌};
 ghost use Rattle.arrayvec.specs.ArrayVec.{array_vec_len};
 
 use arrayvec::ArrayVec;
@@ -56,6 +56,7 @@ use model_spec::RuleSet;
 use search_spec::{Answer, NO_MOVE, Query, Tally};
 use standard_input::{large_buffer, read_full};
 use std::io;
+use std::iter::repeat_n;
 use tables::{KEPT, entry_at};
 
 // The most bytes of a table.
@@ -160,14 +161,11 @@ fn marks_of(table: &[u8]) -> usize {
 }
 
 // Makes a table so many bytes of a value, at most 65,536.
-fn refill(size: usize, value: u8, table: &mut ArrayVec<u8, TABLE_SIZE>)
-    ensures { array_vec_len table.new ≡ min size 65536 }
-{
-    let mut space = large_buffer();
-    let bytes = &mut space[..size.min(TABLE_SIZE)];
-    bytes.fill(value);
-    table.clear();
-    let _fits = table.try_extend_from_slice(bytes);
+fn refill(size: usize, value: u8, table: &mut ArrayVec<u8, TABLE_SIZE>) {
+    table.truncate(size);
+    let more = size.saturating_sub(table.len());
+    let _full = table.extend(repeat_n(value, more));
+    table.fill(value);
 }
 
 // The answer to `b`; the table that now stands is built over bytes of 170.
