@@ -290,6 +290,17 @@ fn print_explanation(rt: &impl Print, standing: &Standing, asked: &Asked<'_>) ->
     print_segment(rt, answer)
 }
 
+// The answer to `q`, `k` or `x`. It stands apart, so that no other case clears the lists of what is asked.
+#[inline(never)]
+fn print_asked(rt: &impl Print, standing: &mut Standing, verb: u8, text: &[u8]) -> io::Result<()> {
+    let asked = asked_of(text);
+    match verb {
+        b'k' => print_tallied_search(rt, standing, &asked),
+        b'x' => print_explanation(rt, standing, &asked),
+        _ => print_search(rt, standing, &asked),
+    }
+}
+
 // The answer to `u`.
 fn print_updates(rt: &impl Print, standing: &mut Standing, text: &[u8]) -> io::Result<()> {
     let (outcome, steps) = split_once(b' ', text);
@@ -347,9 +358,7 @@ fn answer(rt: &impl Print, standing: &mut Standing, verb: u8, text: &[u8]) -> io
         }
         b'u' => print_updates(rt, standing, text)?,
         b'p' => print_part(rt, &standing.plan, text)?,
-        b'q' => print_search(rt, standing, &asked_of(text))?,
-        b'k' => print_tallied_search(rt, standing, &asked_of(text))?,
-        b'x' => print_explanation(rt, standing, &asked_of(text))?,
+        b'q' | b'k' | b'x' => print_asked(rt, standing, verb, text)?,
         _ => {}
     }
     Ok(())
