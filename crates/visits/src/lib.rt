@@ -115,16 +115,11 @@ pub fn explored(set: RuleSet, query: Query<'_>, plan_size: usize) -> Result<Prog
         IfOk result (λ progress. progress ≡ whole_progress set asked) }
 {
     query_refusal(set, query, plan_size)?;
-    // each by its own name: what is lent without one is cleared and copied once more
-    let conditions = conditions_of(set);
-    let effects = effects_of(set);
-    let costs = costs_of(set);
-    let blocked = lookup_of(set.count, query.table);
     let task = Task {
-        conditions: &conditions,
-        effects: &effects,
-        costs: &costs,
-        blocked: &blocked,
+        conditions: &conditions_of(set),
+        effects: &effects_of(set),
+        costs: &costs_of(set),
+        blocked: &lookup_of(set.count, query.table),
         goal: query.goal,
         limits: Limits {
             positions: set.positions as usize,

@@ -15,7 +15,7 @@ visit_from-requires c =
     let none = unrefused a.set query a.plan_size
     (sym (c.query_refusal.ensures c.args.query.max_cost c.args.query.step_limit)
     ∙ ap outcome_number c.in_ok-query_refusal.was) in (
-      lent-whole a.set query a.plan_size none _ _ c.conditions_of-conditions.ensures c.effects_of-effects.ensures,
+      lent-whole a.set query a.plan_size none _ _ c.conditions_of.ensures c.effects_of.ensures,
       reached-first a.set query a.plan_size none _ _ c.start_state-state.ensures,
     )
 
@@ -27,6 +27,6 @@ returns-clause-progress c =
     let none = unrefused a.set query a.plan_size
     (sym (c.query_refusal.ensures c.args.query.max_cost c.args.query.step_limit)
     ∙ ap outcome_number c.in_ok-query_refusal.was) in
-    explored-whole a.set query a.plan_size none _ c.lookup_of-blocked.ensures _ _ _ _ _ _
-    c.conditions_of-conditions.ensures c.effects_of-effects.ensures c.costs_of-costs.ensures c.start_state-state.ensures
+    explored-whole a.set query a.plan_size none _ c.lookup_of.ensures _ _ _ _ _ _
+    c.conditions_of.ensures c.effects_of.ensures c.costs_of.ensures c.start_state-state.ensures
     refl c.visit_from.ensures
