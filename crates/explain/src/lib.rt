@@ -3,6 +3,7 @@
 #![tactic(auto)]
 
 ghost use Rattle.std.specs.Prelude.{◌≡◌, ◌≤◌, length};
+ghost use Rattle.theory_spec.specs.Lists.{same};
 ghost use Rattle.theory_spec.specs.Sequences.{Numbered};
 ghost use Rattle.model_spec.specs.Limits.{place_count, max_rules};
 ghost use Rattle.model_spec.specs.Rules.{sequence_cost};
@@ -90,6 +91,13 @@ fn with_reason(outcome: u8, reason: Reason) -> Explanation
     }
 }
 
+// Whether a proposal is the plan, move by move.
+fn is_plan(moves: &[u8], plan: &[u8]) -> bool
+    ensures { result ≡ same moves.now plan.now }
+{
+    moves.len() == plan.len() && moves.iter().zip(plan).all(|(own, other)| *own == *other)
+}
+
 // The reason for a proposal that leads to the goal: dearer than the plan, as cheap but later, or the plan.
 fn comparison(set: RuleSet, plan: &[u8], moves: &[u8]) -> Reason
     requires { sequence_cost set moves.now ≤ 65535 }
@@ -102,7 +110,7 @@ fn comparison(set: RuleSet, plan: &[u8], moves: &[u8]) -> Reason
             cost: cost as u16,
             plan_cost: plan_cost as u16,
         }
-    } else if moves == plan {
+    } else if is_plan(moves, plan) {
         Reason::IsPlan
     } else {
         Reason::Later
