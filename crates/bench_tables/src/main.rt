@@ -4,7 +4,7 @@
 // `bench/run` times it beside the plain comparison of all macros in Rust.
 #![tactic(auto)]
 
-ghost use Rattle.std.specs.Prelude.{◌≤◌};
+ghost use Rattle.std.specs.Prelude.{◌≤◌, length};
 
 use macros_spec::Touched;
 use model_spec::{MAX_RULES, RuleSet};
@@ -35,7 +35,9 @@ fn with_digit(value: u32, digit: u8) -> u32 {
 }
 
 // The number at the start of a text, and the text behind the byte that ends its digits.
-fn leading_number(text: &[u8]) -> (u32, &[u8]) {
+fn leading_number(text: &[u8]) -> (u32, &[u8])
+    ensures { length result.1.now ≤ length text.now }
+{
     let size = text.iter().position(|b| *b < b'0').unwrap_or(text.len());
     let value = text[..size]
         .iter()

@@ -31,8 +31,8 @@ pub fn witness_serves(set: RuleSet, own: Profile, index: usize, entry: usize) ->
 }
 
 // What the entry at an index marks: nothing where it keeps its sequence, else the sequence of these vectors. Refused
-// where it neither keeps its sequence nor names a smaller index with whose sequence it is redundant. Both callers' loops
-// take it in: a table keeps most of its entries, and each then costs a comparison alone.
+// where it neither keeps its sequence nor names a smaller index with whose sequence it is redundant. Inlined into the
+// callers' loops, a kept entry costs a comparison alone.
 #[inline(always)]
 pub fn mark_at(set: RuleSet, table: &[u8], index: usize) -> Result<Option<Vectors>, Refusal>
     ensures outcome { WellFormed set → index < table_entries set 3
