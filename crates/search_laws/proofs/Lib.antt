@@ -3,6 +3,7 @@ pub mod PlanArrayLaws
 pub mod LookupLaws
 pub mod VisitLoopLaws
 pub mod ProgressLaws
+pub mod RowLaws
 pub mod LentLaws
 pub mod ExploredLaws
 pub mod AnswerLaws

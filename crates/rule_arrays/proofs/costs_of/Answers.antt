@@ -1,31 +1,16 @@
 -- `rule_arrays::costs_of` meets its contract: each turn writes the cost of one rule more.
-use mathlib.Core.Path.{◌≡◌, refl, sym, ◌∙◌}
-use mathlib.Core.List.{List, map, append-nil}
-use Prim.Native.Nat.{ℕ, ◌≤◌}
+use mathlib.Core.Path.{refl}
 use native.Mathlib.Omega.{arith}
-use lib.ListN.{length, length-map, drop_of_length-le, get_or-map}
-use lib.Seq.{take_all}
-use Rattle.model_spec.proofs.CopyLaws.{copied, copied_more}
+use Rattle.search_laws.proofs.RowLaws.{row_more, row-whole}
 use Rattle.rule_arrays.proofs.costs_of.Goals as goal
-
--- after the last turn the row is whole
-row-whole : (old new l : List ℕ) (i : ℕ) → length old ≤ i → length new ≤ i → l ≡ copied old new i → l ≡ new
-row-whole old new l i h k e = e ∙ rw (take_all i new k, drop_of_length-le old {i = i} h) (append-nil new)
 
 pub loop-k-init : goal.loop-k-init
 loop-k-init c = refl
 
 pub loop-k-preserved : goal.loop-k-preserved
 loop-k-preserved c =
-    let l = c.loop-k in
-    let rules = c.args.set.rules in
-    copied_more _ (map (λ rule. rule.cost) rules) l.k l.costs _ _ (omega arith)
-    (omega (arith, length-map rules (λ rule. rule.cost))) l.invariant
-    (sym (get_or-map (λ rule. rule.cost) rules l.k _))
+    row_more (λ rule. rule.cost) _ c.args.set.rules c.loop-k.k _ c.loop-k.invariant _ (omega arith) (omega arith)
 
 pub returns : goal.returns
 returns c =
-    let l = c.loop-k in
-    let rules = c.args.set.rules in
-    row-whole _ (map (λ rule. rule.cost) rules) l.costs l.k (omega arith)
-    (omega (arith, length-map rules (λ rule. rule.cost))) l.invariant
+    row-whole (λ rule. rule.cost) _ c.args.set.rules c.loop-k.k _ c.loop-k.invariant (omega arith) (omega arith)
